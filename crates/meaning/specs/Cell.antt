@@ -1,0 +1,103 @@
+-- One interrupt, as document 01's "Shape and tables" has it: whether it is implemented, and the eight bits of its record.
+use mathlib.Core.Bool.{Bool, true, false, cond, not, _&&_, _||_}
+use Prim.Native.Nat.{ℕ, _+_, _*_, _/_, _%_}
+use lib.Dec.{eqb, ltb}
+use Rattle.lists.specs.Word.{digit}
+
+pub record Cell : Type 0 where
+  pub implemented : Bool
+  pub enabled : Bool
+  pub latch : Bool
+  pub wire : Bool
+  pub message : Bool
+  pub active : Bool
+  pub edge : Bool
+  pub group : Bool
+  pub modifier : Bool
+
+-- the record's bits, by name
+pub data Bit : Type 0 where
+  Enabled Latch Wire Message Active Edge Group Modifier : Bit
+
+-- the record's bits, by value
+abbrev pub value : Bit → ℕ
+value Enabled = 1
+value Latch = 2
+value Wire = 4
+value Message = 8
+value Active = 16
+value Edge = 32
+value Group = 64
+value Modifier = 128
+
+unfoldable pub get : Bit → Cell → Bool
+get Enabled c = c .enabled
+get Latch c = c .latch
+get Wire c = c .wire
+get Message c = c .message
+get Active c = c .active
+get Edge c = c .edge
+get Group c = c .group
+get Modifier c = c .modifier
+
+-- v, where b is the bit that is put; else the bit as it was
+abbrev put-at : Bit → Bit → Bool → Bool → Bool
+put-at a b v old = cond (eqb (value a) (value b)) v old
+
+-- the cell with one bit of its record set to v
+unfoldable pub put : Bit → Bool → Cell → Cell
+put b v c =
+    record {
+      implemented = c .implemented;
+      enabled = put-at Enabled b v (c .enabled);
+      latch = put-at Latch b v (c .latch);
+      wire = put-at Wire b v (c .wire);
+      message = put-at Message b v (c .message);
+      active = put-at Active b v (c .active);
+      edge = put-at Edge b v (c .edge);
+      group = put-at Group b v (c .group);
+      modifier = put-at Modifier b v (c .modifier);
+    }
+
+-- The lent byte of a record. Every byte has a meaning.
+abbrev pub has : Bit → ℕ → Bool
+has b byte = eqb (byte / value b % 2) 1
+
+-- the cell of a byte, i saying whether its interrupt is implemented
+unfoldable pub decode : Bool → ℕ → Cell
+decode i byte =
+    record {
+      implemented = i;
+      enabled = has Enabled byte;
+      latch = has Latch byte;
+      wire = has Wire byte;
+      message = has Message byte;
+      active = has Active byte;
+      edge = has Edge byte;
+      group = has Group byte;
+      modifier = has Modifier byte;
+    }
+
+abbrev weighed : Bit → Bool → ℕ
+weighed b v = value b * digit v
+
+-- the byte of a cell's record
+unfoldable pub encode : Cell → ℕ
+encode c =
+    weighed Enabled (c .enabled) + weighed Latch (c .latch) + weighed Wire (c .wire) + weighed Message (c .message)
+    + weighed Active (c .active) + weighed Edge (c .edge) + weighed Group (c .group) + weighed Modifier (c .modifier)
+
+-- Non-secure means group 1, modifier 0. Any other pair is Secure (HOUSE: both bits 1 too).
+unfoldable pub nonSecure : Cell → Bool
+nonSecure c = c .group && not (c .modifier)
+
+-- INTIDs 0 to 15 are SGIs, which are edge whatever the edge bit says
+unfoldable pub sgi : ℕ → Bool
+sgi m = ltb m 16
+
+unfoldable pub edgeOf : ℕ → Cell → Bool
+edgeOf m c = sgi m || c .edge
+
+-- pending: edge, the latch; level, latch or wire or message level
+unfoldable pub pending : ℕ → Cell → Bool
+pending m c = cond (edgeOf m c) (c .latch) (c .latch || (c .wire || c .message))
