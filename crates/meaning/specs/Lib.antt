@@ -14,3 +14,4 @@ pub mod Answers
 pub mod Registers
 pub mod Rule
 pub mod Step
+pub mod Sides

@@ -105,13 +105,22 @@ wordWritten side f p v m c = gated (reaches side f p m c) (update f (digitAt (di
 unfoldable pub wordShows : Side → Family → Place → ℕ → Cell → ℕ
 wordShows side f p m c = cond (reaches side f p m c) (shows f m c) 0
 
+abbrev pub secureOnly : message.Message → Bool
+secureOnly SetspiNsr = false
+secureOnly ClrspiNsr = false
+secureOnly SetspiSr = true
+secureOnly ClrspiSr = true
+
+abbrev pub sets : message.Message → Bool
+sets SetspiNsr = true
+sets ClrspiNsr = false
+sets SetspiSr = true
+sets ClrspiSr = false
+
 -- The Non-secure side writes no SR register, and names no Secure SPI in an NSR register.
 unfoldable pub maySend : Side → message.Message → Cell → Bool
 maySend Secure g c = true
-maySend NonSecure SetspiNsr c = sees NonSecure c
-maySend NonSecure ClrspiNsr c = sees NonSecure c
-maySend NonSecure SetspiSr c = false
-maySend NonSecure ClrspiSr c = false
+maySend NonSecure g c = not (secureOnly g) && sees NonSecure c
 
 -- SETSPI does nothing if already pending; else edge sets the latch, level sets message level.
 unfoldable pub messageSet : ℕ → Cell → Cell
@@ -122,10 +131,7 @@ unfoldable pub messageCleared : ℕ → Cell → Cell
 messageCleared m c = gated (edgeOf m c) (put Latch false c) (put Message false c)
 
 unfoldable pub sent : message.Message → ℕ → Cell → Cell
-sent SetspiNsr m c = messageSet m c
-sent ClrspiNsr m c = messageCleared m c
-sent SetspiSr m c = messageSet m c
-sent ClrspiSr m c = messageCleared m c
+sent g m c = gated (sets g) (messageSet m c) (messageCleared m c)
 
 -- a write of v to a message register: INTID is value bits 12:0
 unfoldable pub messageWritten : Shape → Side → message.Message → ℕ → ℕ → Cell → Cell
