@@ -1,1 +1,3 @@
 pub mod Bools
+pub mod Every
+pub mod Maps

@@ -1,3 +1,6 @@
 pub mod Cells
+pub mod Bytes
 pub mod Rules
 pub mod Kept
+pub mod Homes
+pub mod After
