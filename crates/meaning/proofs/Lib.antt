@@ -4,3 +4,5 @@ pub mod Rules
 pub mod Kept
 pub mod Homes
 pub mod After
+pub mod Quiet
+pub mod Cases

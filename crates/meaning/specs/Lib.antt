@@ -15,3 +15,4 @@ pub mod Registers
 pub mod Rule
 pub mod Step
 pub mod Sides
+pub mod Cases
