@@ -7,7 +7,9 @@ use lib.Dec.{eqb}
 use borrow.Author.Tests.{eqb-true}
 use Rattle.lists.specs.Word.{digit}
 use Rattle.lists.proofs.Every.{every, every-at}
-use Rattle.meaning.specs.Cell.{Cell, Bit, Enabled, Latch, Wire, Message, Active, Edge, Group, Modifier, value, get, decode, encode}
+use Rattle.types.specs.declared.Bit.{Bit}
+use Rattle.types.specs.declared.Bit.the-variants.{Enabled, Latch, Wire, MessageLevel, Active, Edge, Group, Modifier}
+use Rattle.meaning.specs.Cell.{Cell, value, get, decode, encode}
 
 pub digit-small : (b : Bool) → digit b ≤ 1
 digit-small true = omega arith
@@ -29,7 +31,7 @@ bit-back b c =
     let h5 = digit-small (c .edge) in
     let h6 = digit-small (c .group) in
     let h7 = digit-small (c .modifier) in
-    elim b [ Enabled ↦ omega arith | Latch ↦ omega arith | Wire ↦ omega arith | Message ↦ omega arith | Active ↦ omega arith | Edge ↦ omega arith | Group ↦ omega arith | Modifier ↦ omega arith ]
+    elim b [ Enabled ↦ omega arith | Latch ↦ omega arith | Wire ↦ omega arith | MessageLevel ↦ omega arith | Active ↦ omega arith | Edge ↦ omega arith | Group ↦ omega arith | Modifier ↦ omega arith ]
 
 has-back : (b : Bit) (c : Cell) → eqb (encode c / value b % 2) 1 ≡ get b c
 has-back b c = ap (λ (n : ℕ). eqb n 1) (bit-back b c) ∙ digit-back (get b c)
@@ -43,7 +45,7 @@ decode-encode c =
       enabled = has-back Enabled c i;
       latch = has-back Latch c i;
       wire = has-back Wire c i;
-      message = has-back Message c i;
+      message = has-back MessageLevel c i;
       active = has-back Active c i;
       edge = has-back Edge c i;
       group = has-back Group c i;

@@ -7,7 +7,6 @@ use native.Mathlib.Omega.{arith}
 use lib.Dec.{eqb}
 use borrow.Author.Tests.{eqb-true, eqb-false, ne-eqb}
 use Rattle.lists.specs.Word.{row, digitAt}
-use Rattle.lists.proofs.Bools.{and-left, and-right, clash}
 use Rattle.types.specs.declared.Frame.the-variants.{Dist, Redist}
 use Rattle.types.specs.declared.Side.{Side}
 use Rattle.types.specs.declared.Side.the-variants.{Secure, NonSecure}
@@ -18,10 +17,11 @@ use Rattle.types.specs.declared.Place.the-variants as place
 use Rattle.meaning.specs.Cell.{Cell, get, put, decode, nonSecure, sgi, edgeOf, pending}
 use Rattle.meaning.specs.Layout.{between, inRange, homeOf, spi}
 use Rattle.meaning.specs.Registers.{inColumn, inMessages, listed, placeOf, writtenValue, first, res0, count, names}
-use Rattle.meaning.specs.Rule.{Step, wire, activate, sees, mayTouch, setting, clearing, update, shows, reaches, wordWritten, wordShows, maySend, messageSet, messageCleared, sent, messageWritten, written, wireAnswer, activateAnswer, wired, activated, act}
+use Rattle.meaning.specs.Rule.{Step, wire, activate, sees, mayTouch, setting, clearing, update, shows, reaches, touched, visible, wordWritten, maySend, delivered, messageSet, messageCleared, sent, messageWritten, written, wireAnswer, activateAnswer, wired, activated, act}
 use Rattle.meaning.specs.Step.{typer, wordRead, read, accessAnswer, answer}
 use Rattle.meaning.specs.Cases.{bench, Bytes, present, Named, _is_, naming, from, writes, reads, cases, K1, K2, K3, K4, K5, K6, K7, K8, K9, K10, K11, K12, Hold, RowsHold}
-use Rattle.meaning.proofs.Cells.{gated-shut}
+use Rattle.meaning.proofs.Cells.{gated-keeps}
+use Rattle.meaning.proofs.Rules.{missing-touched}
 use Rattle.meaning.proofs.Homes.{between-low, between-high, between-above, between-below}
 use Rattle.meaning.proofs.Quiet.{bit-quiet, message-quiet, event-quiet}
 
@@ -103,17 +103,14 @@ none-past m lo hi =
     rw (between-above 0 32 m (omega arith) (omega arith), between-above 32 320 m (omega arith) (omega arith), between-above 1056 1088 m (omega arith) (omega arith), between-below 4096 4224 m (omega arith)) refl
 
 past-eppi : (side : Side) (v m : ℕ) (c : Cell) → c .implemented ≡ inRange bench m → act bench (writes side Redist 0x208 v) m c ≡ c
-unfolding act placeOf listed inColumn writtenValue written wordWritten reaches names first count
+unfolding act placeOf listed inColumn writtenValue written wordWritten names first count
 past-eppi side v m c h =
-    gated-shut (between 1088 1120 m && (c .implemented && mayTouch side Ispendr c)) (update Ispendr (digitAt 1 (m - 1088) v) m c) c
-    (λ t.
-    let here = and-left (between 1088 1120 m) _ t in
-    clash (sym h ∙ and-left (c .implemented) (mayTouch side Ispendr c) (and-right (between 1088 1120 m) _ t))
-    (none-past m (between-low 1088 1120 m here) (between-high 1088 1120 m here)))
+    gated-keeps (λ d. d) (between 1088 1120 m) (touched side Ispendr (digitAt 1 (m - 1088) v) m c) c
+    (λ t. missing-touched side Ispendr (digitAt 1 (m - 1088) v) m c (h ∙ none-past m (between-low 1088 1120 m t) (between-high 1088 1120 m t)))
 
 -- THE CASES, for every start r of K10 and K11, every value v of K10 and both sides
 pub all-hold : (r : Bytes) (v : ℕ) (side : Side) → Hold (cases r v side)
-unfolding act answer placeOf listed inColumn inMessages writtenValue first count res0 names homeOf spi inRange present naming decode get put nonSecure sgi edgeOf pending digitAt row sees mayTouch setting clearing update shows reaches wordWritten wordShows maySend messageSet messageCleared sent messageWritten written wireAnswer activateAnswer wired activated wordRead read typer
+unfolding act answer placeOf listed inColumn inMessages writtenValue first count res0 names homeOf spi inRange present naming decode get put nonSecure sgi edgeOf pending digitAt row sees mayTouch setting clearing update shows reaches wordWritten touched visible maySend delivered messageSet messageCleared sent messageWritten written wireAnswer activateAnswer wired activated wordRead read typer
 all-hold r v side = (
   (refl, after-one (writes NonSecure Dist 0x224 0x1000) 300 0x62 (from (300 is 0x60 ∷ [])) set-only refl, (refl, λ m. refl, (refl, λ m. refl, (refl, λ m. refl, (refl, λ m. refl, tt))))),
   (

@@ -3,7 +3,9 @@ use mathlib.Core.Path.{_≡_, refl, ap}
 use mathlib.Core.Bool.{Bool, true, false, not, _&&_, _||_}
 use Prim.Native.Nat.{ℕ}
 use lib.Dec.{eqb}
-use Rattle.meaning.specs.Cell.{Cell, Bit, Enabled, Latch, Wire, Message, Active, Edge, Group, Modifier, get, put, decode, encode, nonSecure}
+use Rattle.types.specs.declared.Bit.{Bit}
+use Rattle.types.specs.declared.Bit.the-variants.{Enabled, Latch, Wire, MessageLevel, Active, Edge, Group, Modifier}
+use Rattle.meaning.specs.Cell.{Cell, get, put, decode, encode, nonSecure}
 use Rattle.meaning.specs.Rule.{gated, setting, clearing}
 
 -- what was put is what is got
@@ -12,7 +14,7 @@ unfolding get put
 get-put Enabled v c = refl
 get-put Latch v c = refl
 get-put Wire v c = refl
-get-put Message v c = refl
+get-put MessageLevel v c = refl
 get-put Active v c = refl
 get-put Edge v c = refl
 get-put Group v c = refl
@@ -24,7 +26,7 @@ unfolding get put
 put-get Enabled c = refl
 put-get Latch c = refl
 put-get Wire c = refl
-put-get Message c = refl
+put-get MessageLevel c = refl
 put-get Active c = refl
 put-get Edge c = refl
 put-get Group c = refl

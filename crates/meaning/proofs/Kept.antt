@@ -4,6 +4,7 @@ use mathlib.Core.Path.{_≡_, refl, sym, _∙_, ap, ap₂}
 use mathlib.Core.Bool.{Bool, true, false, cond, not, _&&_, _||_, Bool·beq}
 use Prim.Native.Nat.{ℕ, _-_, _%_}
 use lib.Dec.{eqb, leb}
+use borrow.Author.Tests.{not-true}
 use Rattle.lists.specs.Word.{digitAt}
 use Rattle.lists.proofs.Bools.{and-left, and-right, both, clash}
 use Rattle.types.specs.declared.Side.{Side}
@@ -19,10 +20,12 @@ use Rattle.types.specs.declared.Place.{Place}
 use Rattle.types.specs.declared.Place.the-variants as place
 use Rattle.types.specs.declared.Decoded.{Decoded}
 use Rattle.types.specs.declared.Decoded.the-variants as decoded
-use Rattle.meaning.specs.Cell.{Cell, Bit, Enabled, Latch, Wire, Message, Active, Edge, Group, Modifier, get, put, decode, nonSecure, sgi, edgeOf, pending}
+use Rattle.types.specs.declared.Bit.{Bit}
+use Rattle.types.specs.declared.Bit.the-variants.{Enabled, Latch, Wire, MessageLevel, Active, Edge, Group, Modifier}
+use Rattle.meaning.specs.Cell.{Cell, get, put, decode, nonSecure, sgi, edgeOf, pending}
 use Rattle.meaning.specs.Layout.{spi}
 use Rattle.meaning.specs.Registers.{digitBits, placeOf, writtenValue, first, names}
-use Rattle.meaning.specs.Rule.{Step, access, wire, activate, deactivate, reset, gated, sees, grouping, mayTouch, setting, clearing, retriggered, update, reaches, wordWritten, sets, maySend, messageSet, messageCleared, sent, messageWritten, written, accessed, wireAnswer, activateAnswer, deactivateAnswer, isDone, wired, activated, deactivated, act}
+use Rattle.meaning.specs.Rule.{Step, access, wire, activate, deactivate, reset, gated, sees, grouping, mayTouch, setting, clearing, retriggered, update, reaches, touched, wordWritten, sets, maySend, delivered, messageSet, messageCleared, sent, messageWritten, written, accessed, wireAnswer, activateAnswer, deactivateAnswer, isDone, wired, activated, deactivated, act}
 use Rattle.meaning.specs.Sides.{owned, secure, writes, groupingAt, regroups}
 use Rattle.meaning.proofs.Cells.{gated-keeps, gated-both}
 
@@ -31,7 +34,7 @@ abbrev state : Bit → Bool
 state Enabled = true
 state Latch = true
 state Wire = true
-state Message = true
+state MessageLevel = true
 state Active = true
 state Edge = true
 state Group = false
@@ -58,9 +61,9 @@ module _ (g : Cell → Bool) (steady : Steady g) where
   retriggered-kept : (e : Bool) (c : Cell) → g (retriggered e c) ≡ g c
   unfolding retriggered
   retriggered-kept e c =
-      gated-both g (Bool·beq e (c .edge)) c (put Edge e (put Latch false (put Message false c))) refl
-      (steady Edge refl e (put Latch false (put Message false c))
-      ∙ (steady Latch refl false (put Message false c) ∙ steady Message refl false c))
+      gated-both g (Bool·beq e (c .edge)) c (put Edge e (put Latch false (put MessageLevel false c))) refl
+      (steady Edge refl e (put Latch false (put MessageLevel false c))
+      ∙ (steady Latch refl false (put MessageLevel false c) ∙ steady MessageLevel refl false c))
 
   -- a write of any family, where a grouping family asks more
   update-kept : (f : Family) (d m : ℕ) (c : Cell) → (grouping f ≡ true → Blind g) → g (update f d m c) ≡ g c
@@ -76,33 +79,36 @@ module _ (g : Cell → Bool) (steady : Steady g) where
   update-kept Icfgr d m c h = gated-both g (sgi m || c .enabled) c (retriggered (leb 2 d) c) refl (retriggered-kept (leb 2 d) c)
 
   -- the Non-secure side's writes to a grouping family do nothing
+  touched-kept : (side : Side) (f : Family) (d m : ℕ) (c : Cell) → ((secure side && grouping f) ≡ true → Blind g) → g (touched side f d m c) ≡ g c
+  unfolding touched reaches mayTouch
+  touched-kept Secure f d m c h = gated-keeps g (c .implemented && true) (update f d m c) c (λ t. update-kept f d m c h)
+  touched-kept NonSecure f d m c h =
+      gated-keeps g (c .implemented && (not (grouping f) && sees NonSecure c)) (update f d m c) c
+      (λ t. update-kept f d m c (λ k. absurd (clash k (not-true (grouping f) (and-left (not (grouping f)) (sees NonSecure c) (and-right (c .implemented) (not (grouping f) && sees NonSecure c) t))))))
+
   word-kept : (side : Side) (f : Family) (p : Place) (v m : ℕ) (c : Cell) → ((secure side && grouping f) ≡ true → Blind g) → g (wordWritten side f p v m c) ≡ g c
-  unfolding wordWritten reaches mayTouch
-  word-kept Secure f p v m c h = gated-keeps g (names p m && (c .implemented && true)) (update f (digitAt (digitBits f) (m - first p) v) m c) c (λ t. update-kept f _ m c h)
-  word-kept NonSecure f p v m c h =
-      gated-keeps g (names p m && (c .implemented && (not (grouping f) && sees NonSecure c)))
-      (update f (digitAt (digitBits f) (m - first p) v) m c) c
-      (λ t. update-kept f _ m c (λ k. absurd (clash k (not-grouping (grouping f) (and-left (not (grouping f)) _ (and-right (c .implemented) _ (and-right (names p m) _ t)))))))
-    where
-      not-grouping : (b : Bool) → not b ≡ true → b ≡ false
-      not-grouping true k = sym k
-      not-grouping false k = refl
+  unfolding wordWritten
+  word-kept side f p v m c h =
+      gated-both g (names p m) (touched side f (digitAt (digitBits f) (m - first p) v) m c) c
+      (touched-kept side f (digitAt (digitBits f) (m - first p) v) m c h) refl
 
   sent-kept : (k : message.Message) (m : ℕ) (c : Cell) → g (sent k m c) ≡ g c
   unfolding sent messageSet messageCleared
   sent-kept k m c =
       gated-both g (sets k) (messageSet m c) (messageCleared m c)
-      (gated-both g (pending m c) c (gated (edgeOf m c) (put Latch true c) (put Message true c)) refl (either true)) (either false)
+      (gated-both g (pending m c) c (gated (edgeOf m c) (put Latch true c) (put MessageLevel true c)) refl (either true)) (either false)
     where
-      either : (v : Bool) → g (gated (edgeOf m c) (put Latch v c) (put Message v c)) ≡ g c
-      either v = gated-both g (edgeOf m c) (put Latch v c) (put Message v c) (steady Latch refl v c) (steady Message refl v c)
+      either : (v : Bool) → g (gated (edgeOf m c) (put Latch v c) (put MessageLevel v c)) ≡ g c
+      either v = gated-both g (edgeOf m c) (put Latch v c) (put MessageLevel v c) (steady Latch refl v c) (steady MessageLevel refl v c)
 
   written-kept : (s : Shape) (side : Side) (p : Place) (v m : ℕ) (c : Cell) → ((secure side && groupingAt (decoded.At p)) ≡ true → Blind g) → g (written s side p v m c) ≡ g c
-  unfolding written messageWritten
+  unfolding written messageWritten delivered
   written-kept s side (place.Word r f n) v m c h = word-kept side f (place.Word r f n) v m c h
   written-kept s side (place.Extended r f n) v m c h = word-kept side f (place.Extended r f n) v m c h
   written-kept s side place.Typer v m c h = refl
-  written-kept s side (place.Message k) v m c h = gated-keeps g (s .mbis && (eqb m (v % 8192) && (spi m && (c .implemented && maySend side k c)))) (sent k m c) c (λ t. sent-kept k m c)
+  written-kept s side (place.Message k) v m c h =
+      gated-both g (s .mbis && (eqb m (v % 8192) && spi m)) (delivered side k m c) c
+      (gated-both g (c .implemented && maySend side k c) (sent k m c) c (sent-kept k m c) refl) refl
 
   accessed-kept : (s : Shape) (a : Access) (d : Decoded) (m : ℕ) (c : Cell) → ((secure (a .side) && (writes (a .way) && groupingAt d)) ≡ true → Blind g) → g (accessed s a d m c) ≡ g c
   accessed-kept s a (decoded.Refused r) m c h = refl
@@ -142,7 +148,7 @@ unfolding get put
 steady-group Enabled h v c = (refl, refl)
 steady-group Latch h v c = (refl, refl)
 steady-group Wire h v c = (refl, refl)
-steady-group Message h v c = (refl, refl)
+steady-group MessageLevel h v c = (refl, refl)
 steady-group Active h v c = (refl, refl)
 steady-group Edge h v c = (refl, refl)
 steady-group Group h v c = absurd (clash h refl)

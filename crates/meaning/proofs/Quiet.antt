@@ -8,6 +8,7 @@ use borrow.Author.Tests.{eqb-true, eqb-false, ne-eqb}
 use Rattle.lists.specs.Word.{digitAt}
 use Rattle.lists.proofs.Bools.{and-left, and-right, clash}
 use Rattle.lists.proofs.Every.{every, every-at}
+use Rattle.types.specs.declared.Bit.the-variants.{Enabled, Latch, Active}
 use Rattle.types.specs.declared.Side.{Side}
 use Rattle.types.specs.declared.Shape.{Shape}
 use Rattle.types.specs.declared.Family.{Family}
@@ -15,11 +16,11 @@ use Rattle.types.specs.declared.Family.the-variants.{Igroupr, Isenabler, Icenab
 use Rattle.types.specs.declared.Message as message
 use Rattle.types.specs.declared.Place.{Place}
 use Rattle.types.specs.declared.Answer.{Answer}
-use Rattle.meaning.specs.Cell.{Cell, Enabled, Latch, Active}
+use Rattle.meaning.specs.Cell.{Cell}
 use Rattle.meaning.specs.Layout.{between, spi}
 use Rattle.meaning.specs.Registers.{digitBits, first, count, names}
-use Rattle.meaning.specs.Rule.{gated, isDone, mayTouch, maySend, sent, update, reaches, wordWritten, messageWritten}
-use Rattle.meaning.proofs.Cells.{gated-keeps, gated-shut, setting-zero, clearing-zero}
+use Rattle.meaning.specs.Rule.{gated, isDone, update, reaches, touched, wordWritten, delivered, messageWritten}
+use Rattle.meaning.proofs.Cells.{gated-keeps, gated-both, gated-shut, setting-zero, clearing-zero}
 use Rattle.meaning.proofs.Homes.{between-low, between-high}
 
 -- the set and clear families, of which a written 0 does nothing
@@ -49,10 +50,10 @@ zero-quiet Icfgr d m c h z = absurd (clash h refl)
 -- a word of a set or clear family, where the written digit of m is 0
 pub word-quiet : (side : Side) (f : Family) (p : Place) (v m : ℕ) (c : Cell) → setOrClear f ≡ true
     → (names p m ≡ true → eqb (digitAt (digitBits f) (m - first p) v) 1 ≡ false) → wordWritten side f p v m c ≡ c
-unfolding wordWritten reaches
+unfolding wordWritten touched
 word-quiet side f p v m c h z =
-    gated-keeps (λ d. d) (names p m && (c .implemented && mayTouch side f c)) (update f (digitAt (digitBits f) (m - first p) v) m c) c
-    (λ t. zero-quiet f (digitAt (digitBits f) (m - first p) v) m c h (z (and-left (names p m) _ t)))
+    gated-keeps (λ d. d) (names p m) (touched side f (digitAt (digitBits f) (m - first p) v) m c) c
+    (λ t. gated-both (λ d. d) (reaches side f c) (update f (digitAt (digitBits f) (m - first p) v) m c) c (zero-quiet f (digitAt (digitBits f) (m - first p) v) m c h (z t)) refl)
 
 -- bit x is the only 1 of the 32-bit value v
 abbrev pub onlyBit : ℕ → ℕ → Bool
@@ -81,8 +82,8 @@ bit-quiet side f p v x m c h one many only ne = word-quiet side f p v m c h zero
 pub message-quiet : (s : Shape) (side : Side) (g : message.Message) (v m : ℕ) (c : Cell) → (m ≡ v % 8192 → ⊥) → messageWritten s side g v m c ≡ c
 unfolding messageWritten
 message-quiet s side g v m c ne =
-    gated-shut (s .mbis && (eqb m (v % 8192) && (spi m && (c .implemented && maySend side g c)))) (sent g m c) c
-    (λ t. ne (eqb-true m (v % 8192) (and-left (eqb m (v % 8192)) _ (and-right (s .mbis) _ t))))
+    gated-shut (s .mbis && (eqb m (v % 8192) && spi m)) (delivered side g m c) c
+    (λ t. ne (eqb-true m (v % 8192) (and-left (eqb m (v % 8192)) (spi m) (and-right (s .mbis) (eqb m (v % 8192) && spi m) t))))
 
 -- and so does an event
 pub event-quiet : (k m : ℕ) (a : Answer) (new c : Cell) → (m ≡ k → ⊥) → gated (eqb k m && isDone a) new c ≡ c

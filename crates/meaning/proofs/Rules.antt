@@ -28,12 +28,14 @@ use Rattle.types.specs.declared.Decoded.{Decoded}
 use Rattle.types.specs.declared.Decoded.the-variants as decoded
 use Rattle.types.specs.declared.Answer.{Answer}
 use Rattle.types.specs.declared.Answer.the-variants.{Done, Refused}
-use Rattle.meaning.specs.Cell.{Cell, Bit, Enabled, Latch, Wire, Message, Active, Edge, Group, Modifier, get, put, decode, nonSecure, sgi, edgeOf, pending}
+use Rattle.types.specs.declared.Bit.{Bit}
+use Rattle.types.specs.declared.Bit.the-variants.{Enabled, Latch, Wire, MessageLevel, Active, Edge, Group, Modifier}
+use Rattle.meaning.specs.Cell.{Cell, get, put, decode, nonSecure, sgi, edgeOf, pending}
 use Rattle.meaning.specs.Layout.{spi}
 use Rattle.meaning.specs.Registers.{digitBits, placeOf, writtenValue, first, names}
-use Rattle.meaning.specs.Rule.{Step, access, wire, activate, deactivate, reset, gated, sees, grouping, mayTouch, setting, clearing, retriggered, update, shows, reaches, wordWritten, wordShows, secureOnly, maySend, sent, messageWritten, written, accessed, wireAnswer, activateAnswer, deactivateAnswer, isDone, first-of, wired, activated, deactivated, act}
+use Rattle.meaning.specs.Rule.{Step, access, wire, activate, deactivate, reset, gated, sees, grouping, mayTouch, setting, clearing, retriggered, update, shows, reaches, touched, visible, wordWritten, secureOnly, maySend, sent, delivered, messageWritten, written, accessed, wireAnswer, activateAnswer, deactivateAnswer, isDone, first-of, wired, activated, deactivated, act}
 use Rattle.meaning.specs.Sides.{owned, sideOf, permitted, isReset, regroups}
-use Rattle.meaning.proofs.Cells.{gated-keeps, gated-shut}
+use Rattle.meaning.proofs.Cells.{gated-both, gated-shut}
 
 -- Each gate, where it is open, says that the interrupt is implemented and that the side sees it.
 touch-sees : (side : Side) (f : Family) (c : Cell) → mayTouch side f c ≡ true → sees side c ≡ true
@@ -50,9 +52,9 @@ send-sees NonSecure g c h = and-right (not (secureOnly g)) (nonSecure c) h
 open-gate : (side : Side) (c : Cell) (x : Bool) → (x ≡ true → sees side c ≡ true) → (c .implemented && x) ≡ true → (c .implemented && sees side c) ≡ true
 open-gate side c x h t = both (c .implemented) (sees side c) (and-left (c .implemented) x t) (h (and-right (c .implemented) x t))
 
-reaches-open : (side : Side) (f : Family) (p : Place) (m : ℕ) (c : Cell) → reaches side f p m c ≡ true → (c .implemented && sees side c) ≡ true
+reaches-open : (side : Side) (f : Family) (c : Cell) → reaches side f c ≡ true → (c .implemented && sees side c) ≡ true
 unfolding reaches
-reaches-open side f p m c t = open-gate side c (mayTouch side f c) (touch-sees side f c) (and-right (names p m) (c .implemented && mayTouch side f c) t)
+reaches-open side f c t = open-gate side c (mayTouch side f c) (touch-sees side f c) t
 
 -- an event that is done names an interrupt that the side sees
 done-open : (b : Bool) (a : Answer) → isDone (first-of (not b) (Refused refusal.Intid) a) ≡ true → b ≡ true
@@ -76,15 +78,23 @@ deactivate-open side m c t =
 
 -- Writes, then accesses, then every step.
 module _ (s : Shape) (side : Side) (m : ℕ) (c : Cell) (shut : (c .implemented && sees side c) ≡ false) where
+  touched-left : (f : Family) (d : ℕ) → touched side f d m c ≡ c
+  unfolding touched
+  touched-left f d = gated-shut (reaches side f c) (update f d m c) c (λ t. clash (reaches-open side f c t) shut)
+
   word-left : (f : Family) (p : Place) (v : ℕ) → wordWritten side f p v m c ≡ c
   unfolding wordWritten
-  word-left f p v = gated-shut (reaches side f p m c) (update f (digitAt (digitBits f) (m - first p) v) m c) c (λ t. clash (reaches-open side f p m c t) shut)
+  word-left f p v = gated-both (λ x. x) (names p m) (touched side f (digitAt (digitBits f) (m - first p) v) m c) c (touched-left f (digitAt (digitBits f) (m - first p) v)) refl
+
+  delivered-left : (g : message.Message) → delivered side g m c ≡ c
+  unfolding delivered
+  delivered-left g =
+      gated-shut (c .implemented && maySend side g c) (sent g m c) c
+      (λ t. clash (open-gate side c (maySend side g c) (send-sees side g c) t) shut)
 
   message-left : (g : message.Message) (v : ℕ) → messageWritten s side g v m c ≡ c
   unfolding messageWritten
-  message-left g v =
-      gated-shut (s .mbis && (eqb m (v % 8192) && (spi m && (c .implemented && maySend side g c)))) (sent g m c) c
-      (λ t. clash (open-gate side c (maySend side g c) (send-sees side g c) (and-right (spi m) _ (and-right (eqb m (v % 8192)) _ (and-right (s .mbis) _ t)))) shut)
+  message-left g v = gated-both (λ x. x) (s .mbis && (eqb m (v % 8192) && spi m)) (delivered side g m c) c (delivered-left g) refl
 
   written-left : (p : Place) (v : ℕ) → written s side p v m c ≡ c
   unfolding written
@@ -92,6 +102,10 @@ module _ (s : Shape) (side : Side) (m : ℕ) (c : Cell) (shut : (c .implemented 
   written-left (place.Extended r f n) v = word-left f (place.Extended r f n) v
   written-left place.Typer v = refl
   written-left (place.Message g) v = message-left g v
+
+pub missing-touched : (side : Side) (f : Family) (d m : ℕ) (c : Cell) → c .implemented ≡ false → touched side f d m c ≡ c
+unfolding touched reaches
+missing-touched side f d m c h = gated-shut (c .implemented && mayTouch side f c) (update f d m c) c (λ t. clash (and-left (c .implemented) (mayTouch side f c) t) h)
 
 way-left : (w : Way) (new old : Cell) → new ≡ old → _≡_ {A = Cell} (elim w [ Read ↦ old | Write ↦ new ]) old
 way-left Read new old h = refl
@@ -137,16 +151,16 @@ shown-shut true d h = absurd (h refl)
 shown-shut false d h = refl
 
 -- what a side may not reach, it is shown as 0
-pub unreached-unseen : (side : Side) (f : Family) (p : Place) (m : ℕ) (c : Cell) → (c .implemented && sees side c) ≡ false → wordShows side f p m c ≡ 0
-unfolding wordShows
-unreached-unseen side f p m c h = shown-shut (reaches side f p m c) (shows f m c) (λ t. clash (reaches-open side f p m c t) h)
+pub unreached-unseen : (side : Side) (f : Family) (m : ℕ) (c : Cell) → (c .implemented && sees side c) ≡ false → visible side f m c ≡ 0
+unfolding visible
+unreached-unseen side f m c h = shown-shut (reaches side f c) (shows f m c) (λ t. clash (reaches-open side f c t) h)
 
-pub missing-unseen : (side : Side) (f : Family) (p : Place) (m : ℕ) (c : Cell) → c .implemented ≡ false → wordShows side f p m c ≡ 0
-missing-unseen side f p m c h = unreached-unseen side f p m c (ap (λ (i : Bool). i && sees side c) h)
+pub missing-unseen : (side : Side) (f : Family) (m : ℕ) (c : Cell) → c .implemented ≡ false → visible side f m c ≡ 0
+missing-unseen side f m c h = unreached-unseen side f m c (ap (λ (i : Bool). i && sees side c) h)
 
-pub secure-unseen : (f : Family) (p : Place) (m : ℕ) (c : Cell) → owned c ≡ false → wordShows NonSecure f p m c ≡ 0
+pub secure-unseen : (f : Family) (m : ℕ) (c : Cell) → owned c ≡ false → visible NonSecure f m c ≡ 0
 unfolding owned sees
-secure-unseen f p m c h = unreached-unseen NonSecure f p m c h
+secure-unseen f m c h = unreached-unseen NonSecure f m c h
 
 intid-refused : (b : Bool) (a : Answer) → b ≡ false → first-of (not b) (Refused refusal.Intid) a ≡ Refused refusal.Intid
 intid-refused true a h = absurd (clash refl h)

@@ -3,6 +3,8 @@ use mathlib.Core.Bool.{Bool, true, false, cond, not, _&&_, _||_}
 use Prim.Native.Nat.{ℕ, _+_, _*_, _/_, _%_}
 use lib.Dec.{eqb, ltb}
 use Rattle.lists.specs.Word.{digit}
+use Rattle.types.specs.declared.Bit.{Bit}
+use Rattle.types.specs.declared.Bit.the-variants.{Enabled, Latch, Wire, MessageLevel, Active, Edge, Group, Modifier}
 
 pub record Cell : Type 0 where
   pub implemented : Bool
@@ -15,16 +17,12 @@ pub record Cell : Type 0 where
   pub group : Bool
   pub modifier : Bool
 
--- the record's bits, by name
-pub data Bit : Type 0 where
-  Enabled Latch Wire Message Active Edge Group Modifier : Bit
-
 -- the record's bits, by value
 abbrev pub value : Bit → ℕ
 value Enabled = 1
 value Latch = 2
 value Wire = 4
-value Message = 8
+value MessageLevel = 8
 value Active = 16
 value Edge = 32
 value Group = 64
@@ -34,7 +32,7 @@ unfoldable pub get : Bit → Cell → Bool
 get Enabled c = c .enabled
 get Latch c = c .latch
 get Wire c = c .wire
-get Message c = c .message
+get MessageLevel c = c .message
 get Active c = c .active
 get Edge c = c .edge
 get Group c = c .group
@@ -52,7 +50,7 @@ put b v c =
       enabled = put-at Enabled b v (c .enabled);
       latch = put-at Latch b v (c .latch);
       wire = put-at Wire b v (c .wire);
-      message = put-at Message b v (c .message);
+      message = put-at MessageLevel b v (c .message);
       active = put-at Active b v (c .active);
       edge = put-at Edge b v (c .edge);
       group = put-at Group b v (c .group);
@@ -71,7 +69,7 @@ decode i byte =
       enabled = has Enabled byte;
       latch = has Latch byte;
       wire = has Wire byte;
-      message = has Message byte;
+      message = has MessageLevel byte;
       active = has Active byte;
       edge = has Edge byte;
       group = has Group byte;
@@ -84,7 +82,7 @@ weighed b v = value b * digit v
 -- the byte of a cell's record
 unfoldable pub encode : Cell → ℕ
 encode c =
-    weighed Enabled (c .enabled) + weighed Latch (c .latch) + weighed Wire (c .wire) + weighed Message (c .message)
+    weighed Enabled (c .enabled) + weighed Latch (c .latch) + weighed Wire (c .wire) + weighed MessageLevel (c .message)
     + weighed Active (c .active) + weighed Edge (c .edge) + weighed Group (c .group) + weighed Modifier (c .modifier)
 
 -- Non-secure means group 1, modifier 0. Any other pair is Secure (HOUSE: both bits 1 too).

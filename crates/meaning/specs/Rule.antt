@@ -4,6 +4,8 @@ use mathlib.Core.Bool.{Bool, true, false, cond, not, _&&_, _||_, Bool·beq}
 use Prim.Native.Nat.{ℕ, _+_, _*_, _-_, _/_, _%_}
 use lib.Dec.{eqb, ltb, leb}
 use Rattle.lists.specs.Word.{digit, digitAt}
+use Rattle.types.specs.declared.Bit.{Bit}
+use Rattle.types.specs.declared.Bit.the-variants.{Enabled, Latch, Wire, MessageLevel, Active, Edge, Group, Modifier}
 use Rattle.types.specs.declared.Side.{Side}
 use Rattle.types.specs.declared.Side.the-variants.{Secure, NonSecure}
 use Rattle.types.specs.declared.Shape.{Shape}
@@ -20,7 +22,7 @@ use Rattle.types.specs.declared.Decoded.{Decoded}
 use Rattle.types.specs.declared.Decoded.the-variants as decoded
 use Rattle.types.specs.declared.Answer.{Answer}
 use Rattle.types.specs.declared.Answer.the-variants.{Done, Refused}
-use Rattle.meaning.specs.Cell.{Cell, Bit, Enabled, Latch, Wire, Message, Active, Edge, Group, Modifier, get, put, decode, nonSecure, sgi, edgeOf, pending}
+use Rattle.meaning.specs.Cell.{Cell, get, put, decode, nonSecure, sgi, edgeOf, pending}
 use Rattle.meaning.specs.Layout.{spi}
 use Rattle.meaning.specs.Registers.{digitBits, placeOf, writtenValue, first, names}
 
@@ -67,7 +69,7 @@ clearing b d c = put b (not (eqb d 1) && get b c) c
 
 -- HOUSE: a write that changes the trigger clears latch and message level
 unfoldable pub retriggered : Bool → Cell → Cell
-retriggered e c = gated (Bool·beq e (c .edge)) c (put Edge e (put Latch false (put Message false c)))
+retriggered e c = gated (Bool·beq e (c .edge)) c (put Edge e (put Latch false (put MessageLevel false c)))
 
 -- what writing the digit d of a family does. ICFGR: the upper bit is edge; SGI fields and (HOUSE) enabled ones ignore writes.
 unfoldable pub update : Family → ℕ → ℕ → Cell → Cell
@@ -93,17 +95,20 @@ shows Icactiver m c = digit (c .active)
 shows Igrpmodr m c = digit (c .modifier)
 shows Icfgr m c = 2 * digit (edgeOf m c)
 
--- THE GATE of a register word: it has a digit of m, m is implemented, and the side may touch it.
-unfoldable pub reaches : Side → Family → Place → ℕ → Cell → Bool
-reaches side f p m c = names p m && (c .implemented && mayTouch side f c)
+-- THE GATE: the interrupt is implemented, and the side may touch it.
+unfoldable pub reaches : Side → Family → Cell → Bool
+reaches side f c = c .implemented && mayTouch side f c
 
--- a write of v to a word of the family f
+-- the digit d of m is written to the family f, and the digit of m that it shows
+unfoldable pub touched : Side → Family → ℕ → ℕ → Cell → Cell
+touched side f d m c = gated (reaches side f c) (update f d m c) c
+
+unfoldable pub visible : Side → Family → ℕ → Cell → ℕ
+visible side f m c = cond (reaches side f c) (shows f m c) 0
+
+-- a write of v to a word of the family f, where the word has a digit of m
 unfoldable pub wordWritten : Side → Family → Place → ℕ → ℕ → Cell → Cell
-wordWritten side f p v m c = gated (reaches side f p m c) (update f (digitAt (digitBits f) (m - first p) v) m c) c
-
--- a read of a word of the family f: what it shows of m
-unfoldable pub wordShows : Side → Family → Place → ℕ → Cell → ℕ
-wordShows side f p m c = cond (reaches side f p m c) (shows f m c) 0
+wordWritten side f p v m c = gated (names p m) (touched side f (digitAt (digitBits f) (m - first p) v) m c) c
 
 abbrev pub secureOnly : message.Message → Bool
 secureOnly SetspiNsr = false
@@ -124,19 +129,22 @@ maySend NonSecure g c = not (secureOnly g) && sees NonSecure c
 
 -- SETSPI does nothing if already pending; else edge sets the latch, level sets message level.
 unfoldable pub messageSet : ℕ → Cell → Cell
-messageSet m c = gated (pending m c) c (gated (edgeOf m c) (put Latch true c) (put Message true c))
+messageSet m c = gated (pending m c) c (gated (edgeOf m c) (put Latch true c) (put MessageLevel true c))
 
 -- CLRSPI clears the latch for edge, message level for level (HOUSE: not the latch there).
 unfoldable pub messageCleared : ℕ → Cell → Cell
-messageCleared m c = gated (edgeOf m c) (put Latch false c) (put Message false c)
+messageCleared m c = gated (edgeOf m c) (put Latch false c) (put MessageLevel false c)
 
 unfoldable pub sent : message.Message → ℕ → Cell → Cell
 sent g m c = gated (sets g) (messageSet m c) (messageCleared m c)
 
--- a write of v to a message register: INTID is value bits 12:0
+-- what a message does to the interrupt that it names
+unfoldable pub delivered : Side → message.Message → ℕ → Cell → Cell
+delivered side g m c = gated (c .implemented && maySend side g c) (sent g m c) c
+
+-- a write of v to a message register: INTID is value bits 12:0, and no other than an SPI or extended SPI
 unfoldable pub messageWritten : Shape → Side → message.Message → ℕ → ℕ → Cell → Cell
-messageWritten s side g v m c =
-    gated (s .mbis && (eqb m (v % 8192) && (spi m && (c .implemented && maySend side g c)))) (sent g m c) c
+messageWritten s side g v m c = gated (s .mbis && (eqb m (v % 8192) && spi m)) (delivered side g m c) c
 
 -- a write of v to a place
 unfoldable pub written : Shape → Side → Place → ℕ → ℕ → Cell → Cell

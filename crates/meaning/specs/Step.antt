@@ -22,7 +22,7 @@ use Rattle.types.specs.declared.Answer.the-variants.{Done, Refused}
 use Rattle.meaning.specs.Cell.{Cell, decode, encode}
 use Rattle.meaning.specs.Layout.{Tables, recordsOf, intidOf, implemented, cellOf, wellFormed}
 use Rattle.meaning.specs.Registers.{digitBits, placeOf, first, count}
-use Rattle.meaning.specs.Rule.{Step, access, wire, activate, deactivate, reset, act, wordShows, wireAnswer, activateAnswer, deactivateAnswer}
+use Rattle.meaning.specs.Rule.{Step, access, wire, activate, deactivate, reset, act, visible, wireAnswer, activateAnswer, deactivateAnswer}
 
 -- every interrupt, by its INTID
 abbrev pub Cells : Type 0
@@ -36,7 +36,7 @@ typer s =
 
 -- a word of the family f: the digits that it shows of its interrupts
 unfoldable pub wordRead : Side → Family → Place → Cells → ℕ
-wordRead side f p cells = row (digitBits f) (count p) (λ x. wordShows side f p (first p + x) (cells (first p + x)))
+wordRead side f p cells = row (digitBits f) (count p) (λ x. visible side f (first p + x) (cells (first p + x)))
 
 -- what a read shows; message registers give 0 (HOUSE)
 unfoldable pub read : Shape → Side → Place → Cells → ℕ

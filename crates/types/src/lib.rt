@@ -81,6 +81,18 @@ impl Access {
     }
 }
 
+// The bits of an interrupt's record.
+pub enum Bit {
+    Enabled,
+    Latch,
+    Wire,
+    MessageLevel,
+    Active,
+    Edge,
+    Group,
+    Modifier,
+}
+
 // The register families that hold a digit for each interrupt.
 pub enum Family {
     Igroupr,
