@@ -9,7 +9,7 @@ use Rattle.lists.specs.Word.{digit}
 use Rattle.lists.proofs.Every.{every, every-at}
 use Rattle.types.specs.declared.Bit.{Bit}
 use Rattle.types.specs.declared.Bit.the-variants.{Enabled, Latch, Wire, MessageLevel, Active, Edge, Group, Modifier}
-use Rattle.meaning.specs.Cell.{Cell, value, get, decode, encode}
+use Rattle.meaning.specs.Cell.{Cell, value, get, put, decode, encode}
 
 pub digit-small : (b : Bool) → digit b ≤ 1
 digit-small true = omega arith
@@ -58,3 +58,15 @@ same-byte n = eqb (encode (decode true n)) n
 pub encode-decode : (i : Bool) (n : ℕ) → n < 256 → encode (decode i n) ≡ n
 unfolding same-byte encode decode
 encode-decode i n h = eqb-true (encode (decode true n)) n (every-at same-byte 256 refl n h)
+
+-- a cell that was encoded comes back, where its presence is known
+pub decode-back : (i : Bool) (c : Cell) → c .implemented ≡ i → decode i (encode c) ≡ c
+decode-back i c h = rw (← h) (decode-encode c)
+
+pub decode-put : (i : Bool) (b : Bit) (v : Bool) (n : ℕ) → decode i (encode (put b v (decode i n))) ≡ put b v (decode i n)
+unfolding put decode
+decode-put i b v n = decode-encode (put b v (decode i n))
+
+-- a bit put into a byte that is known as a cell's
+pub put-after : (i : Bool) (b : Bit) (v : Bool) (n : ℕ) (c : Cell) → c .implemented ≡ i → n ≡ encode c → encode (put b v (decode i n)) ≡ encode (put b v c)
+put-after i b v n c h e = ap (λ (d : Cell). encode (put b v d)) (ap (λ (k : ℕ). decode i k) e ∙ decode-back i c h)

@@ -53,3 +53,10 @@ gated-shut b new old h = gated-keeps (λ c. c) b new old (λ t. absurd (h t))
 pub gated-both {ℓ} : {A : Type ℓ} (g : Cell → A) (b : Bool) (x y : Cell) {k : A} → g x ≡ k → g y ≡ k → g (gated b x y) ≡ k
 gated-both g true x y h k = h
 gated-both g false x y h k = k
+
+-- a gate that is known
+pub gated-true : (b : Bool) (x y : Cell) → b ≡ true → gated b x y ≡ x
+gated-true b x y h = ap (λ (t : Bool). gated t x y) h
+
+pub gated-false : (b : Bool) (x y : Cell) → b ≡ false → gated b x y ≡ y
+gated-false b x y h = ap (λ (t : Bool). gated t x y) h

@@ -25,7 +25,7 @@ use Rattle.types.specs.declared.Bit.the-variants.{Enabled, Latch, Wire, Message
 use Rattle.meaning.specs.Cell.{Cell, get, put, decode, nonSecure, sgi, edgeOf, pending}
 use Rattle.meaning.specs.Layout.{spi}
 use Rattle.meaning.specs.Registers.{digitBits, placeOf, writtenValue, first, names}
-use Rattle.meaning.specs.Rule.{Step, access, wire, activate, deactivate, reset, gated, sees, grouping, mayTouch, setting, clearing, retriggered, update, reaches, touched, wordWritten, sets, maySend, delivered, messageSet, messageCleared, sent, messageWritten, written, accessed, wireAnswer, activateAnswer, deactivateAnswer, isDone, wired, activated, deactivated, act}
+use Rattle.meaning.specs.Rule.{Step, access, wire, activate, deactivate, reset, gated, sees, grouping, mayTouch, setting, clearing, retriggered, configured, update, reaches, touched, wordWritten, sets, maySend, delivered, messageSet, messageCleared, sent, messageWritten, written, accessed, wireAnswer, activateAnswer, deactivateAnswer, isDone, wired, activated, deactivated, act}
 use Rattle.meaning.specs.Sides.{owned, secure, writes, groupingAt, regroups}
 use Rattle.meaning.proofs.Cells.{gated-keeps, gated-both}
 
@@ -67,7 +67,7 @@ module _ (g : Cell → Bool) (steady : Steady g) where
 
   -- a write of any family, where a grouping family asks more
   update-kept : (f : Family) (d m : ℕ) (c : Cell) → (grouping f ≡ true → Blind g) → g (update f d m c) ≡ g c
-  unfolding update
+  unfolding update configured
   update-kept Igroupr d m c h = h refl .put-kept Group (eqb d 1) c
   update-kept Isenabler d m c h = set-kept Enabled refl d c
   update-kept Icenabler d m c h = clear-kept Enabled refl d c

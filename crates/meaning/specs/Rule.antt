@@ -71,7 +71,11 @@ clearing b d c = put b (not (eqb d 1) && get b c) c
 unfoldable pub retriggered : Bool → Cell → Cell
 retriggered e c = gated (Bool·beq e (c .edge)) c (put Edge e (put Latch false (put MessageLevel false c)))
 
--- what writing the digit d of a family does. ICFGR: the upper bit is edge; SGI fields and (HOUSE) enabled ones ignore writes.
+-- ICFGR: the digit's upper bit is edge. SGI fields ignore writes, and so (HOUSE) do those of enabled interrupts.
+unfoldable pub configured : ℕ → ℕ → Cell → Cell
+configured d m c = gated (sgi m || c .enabled) c (retriggered (leb 2 d) c)
+
+-- what writing the digit d of a family does
 unfoldable pub update : Family → ℕ → ℕ → Cell → Cell
 update Igroupr d m c = put Group (eqb d 1) c
 update Isenabler d m c = setting Enabled d c
@@ -81,7 +85,7 @@ update Icpendr d m c = clearing Latch d c
 update Isactiver d m c = setting Active d c
 update Icactiver d m c = clearing Active d c
 update Igrpmodr d m c = put Modifier (eqb d 1) c
-update Icfgr d m c = gated (sgi m || c .enabled) c (retriggered (leb 2 d) c)
+update Icfgr d m c = configured d m c
 
 -- the digit that a family shows. Both of a set and clear pair read the same word.
 unfoldable pub shows : Family → ℕ → Cell → ℕ
