@@ -1,3 +1,4 @@
 pub mod Bools
 pub mod Every
 pub mod Maps
+pub mod Tables

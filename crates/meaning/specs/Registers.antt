@@ -56,16 +56,40 @@ digitBits Icactiver = 1
 digitBits Igrpmodr = 1
 digitBits Icfgr = 2
 
--- how many INTIDs a word has: 32, and 16 in ICFGR
+-- how many INTIDs a word has
 abbrev pub perWord : Family → ℕ
-perWord f = 32 / digitBits f
+perWord Igroupr = 32
+perWord Isenabler = 32
+perWord Icenabler = 32
+perWord Ispendr = 32
+perWord Icpendr = 32
+perWord Isactiver = 32
+perWord Icactiver = 32
+perWord Igrpmodr = 32
+perWord Icfgr = 16
 
--- how many words a column has for 1,024 Distributor INTIDs, and for 96 Redistributor INTIDs
+-- how many words the Distributor has of a family, and as many extended ones; and how many the Redistributor has
 abbrev pub distWords : Family → ℕ
-distWords f = 1024 / perWord f
+distWords Igroupr = 32
+distWords Isenabler = 32
+distWords Icenabler = 32
+distWords Ispendr = 32
+distWords Icpendr = 32
+distWords Isactiver = 32
+distWords Icactiver = 32
+distWords Igrpmodr = 32
+distWords Icfgr = 64
 
 abbrev pub redistWords : Family → ℕ
-redistWords f = 96 / perWord f
+redistWords Igroupr = 3
+redistWords Isenabler = 3
+redistWords Icenabler = 3
+redistWords Ispendr = 3
+redistWords Icpendr = 3
+redistWords Isactiver = 3
+redistWords Icactiver = 3
+redistWords Igrpmodr = 3
+redistWords Icfgr = 6
 
 abbrev pub messages : List Message
 messages = SetspiNsr ∷ ClrspiNsr ∷ SetspiSr ∷ ClrspiSr ∷ []
@@ -90,9 +114,13 @@ unfoldable pub inMessages : ℕ → Decoded → List Message → Decoded
 inMessages o other [] = other
 inMessages o other (g ∷ gs) = pick (eqb o (messageOffset g)) (At (place.Message g)) (inMessages o other gs)
 
--- The Redistributor's words 0 (ICFGR: 0 and 1) are its SGIs and PPIs, the others its extended PPIs.
+-- word n holds INTIDs below 32: word 0, and in ICFGR words 0 and 1
+abbrev pub low : Family → ℕ → Bool
+low f n = ltb n (digitBits f)
+
+-- The Redistributor's low words are its SGIs and PPIs, the others its extended PPIs.
 abbrev pub redistPlace : Family → ℕ → Place
-redistPlace f n = cond (ltb (perWord f * n) 32) (place.Word Redist f n) (place.Extended Redist f n)
+redistPlace f n = cond (low f n) (place.Word Redist f n) (place.Extended Redist f n)
 
 -- the place of the word at an offset that is a multiple of 4
 unfoldable pub listed : Frame → ℕ → Decoded
@@ -135,9 +163,9 @@ first (place.Extended Redist f n) = 1024 + perWord f * n
 first place.Typer = 0
 first (place.Message g) = 0
 
--- The word is res0 because affinity routing is on: Distributor word 0, ICFGR words 0 and 1.
+-- The word is res0 because affinity routing is on: the Distributor's low words.
 unfoldable pub res0 : Place → Bool
-res0 (place.Word Dist f n) = ltb (perWord f * n) 32
+res0 (place.Word Dist f n) = low f n
 res0 (place.Word Redist f n) = false
 res0 (place.Extended r f n) = false
 res0 place.Typer = false
