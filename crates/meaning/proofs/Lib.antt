@@ -6,3 +6,4 @@ pub mod Homes
 pub mod After
 pub mod Quiet
 pub mod Cases
+pub mod Effects
