@@ -17,7 +17,7 @@ use Rattle.types.specs.declared.Place.the-variants as place
 use Rattle.meaning.specs.Cell.{Cell, get, put, decode, nonSecure, sgi, edgeOf, pending}
 use Rattle.meaning.specs.Layout.{between, inRange, homeOf, spi}
 use Rattle.meaning.specs.Registers.{inColumn, inMessages, listed, placeOf, writtenValue, first, res0, count, names}
-use Rattle.meaning.specs.Rule.{Step, wire, activate, sees, mayTouch, setting, clearing, update, shows, reaches, touched, visible, wordWritten, maySend, delivered, messageSet, messageCleared, sent, messageWritten, written, wireAnswer, activateAnswer, wired, activated, act}
+use Rattle.meaning.specs.Rule.{Step, wire, activate, sees, mayTouch, setting, clearing, update, shows, reaches, touched, visible, wordWritten, maySend, delivered, addresses, rises, messageSet, messageCleared, sent, messageWritten, written, wireAnswer, activateAnswer, wired, activated, act}
 use Rattle.meaning.specs.Step.{typer, wordRead, read, accessAnswer, answer}
 use Rattle.meaning.specs.Cases.{bench, Bytes, present, Named, _is_, naming, from, writes, reads, cases, K1, K2, K3, K4, K5, K6, K7, K8, K9, K10, K11, K12, Hold, RowsHold}
 use Rattle.meaning.proofs.Cells.{gated-keeps}
@@ -110,7 +110,7 @@ past-eppi side v m c h =
 
 -- THE CASES, for every start r of K10 and K11, every value v of K10 and both sides
 pub all-hold : (r : Bytes) (v : ℕ) (side : Side) → Hold (cases r v side)
-unfolding act answer placeOf listed inColumn inMessages writtenValue first count res0 names homeOf spi inRange present naming decode get put nonSecure sgi edgeOf pending digitAt row sees mayTouch setting clearing update shows reaches wordWritten touched visible maySend delivered messageSet messageCleared sent messageWritten written wireAnswer activateAnswer wired activated wordRead read typer
+unfolding act answer placeOf listed inColumn inMessages writtenValue first count res0 names homeOf spi inRange present naming decode get put nonSecure sgi edgeOf pending digitAt row sees mayTouch setting clearing update shows reaches wordWritten touched visible maySend delivered addresses rises messageSet messageCleared sent messageWritten written wireAnswer activateAnswer wired activated wordRead read typer
 all-hold r v side = (
   (refl, after-one (writes NonSecure Dist 0x224 0x1000) 300 0x62 (from (300 is 0x60 ∷ [])) set-only refl, (refl, λ m. refl, (refl, λ m. refl, (refl, λ m. refl, (refl, λ m. refl, tt))))),
   (

@@ -11,7 +11,7 @@ use Rattle.types.specs.declared.Shape.{Shape}
 use Rattle.types.specs.declared.Family.{Family}
 use Rattle.types.specs.declared.Family.the-variants.{Igroupr, Isenabler, Icenabler, Ispendr, Icpendr, Isactiver, Icactiver, Igrpmodr, Icfgr}
 use Rattle.meaning.specs.Cell.{Cell, get, put, decode, encode, sgi, edgeOf, pending}
-use Rattle.meaning.specs.Rule.{reset, gated, grouping, mayTouch, setting, clearing, retriggered, configured, update, shows, reaches, touched, visible, messageSet, messageCleared, wired, activated, deactivated, act}
+use Rattle.meaning.specs.Rule.{reset, gated, grouping, mayTouch, setting, clearing, retriggered, otherTrigger, fixedField, configured, update, shows, reaches, touched, visible, messageSet, messageCleared, rises, wired, activated, deactivated, act}
 use Rattle.meaning.proofs.Bytes.{digit-back}
 use Rattle.meaning.proofs.Cells.{gated-true, gated-false}
 
@@ -75,7 +75,7 @@ or-true true = refl
 or-true false = refl
 
 pub pending-outlives : (m : ℕ) (c : Cell) → pending m (wired false m (update Ispendr 1 m c)) ≡ true
-unfolding pending edgeOf wired update setting get put
+unfolding pending edgeOf wired rises update setting get put
 pending-outlives m c =
     ap (λ (l : Bool). cond (sgi m || c .edge) l (l || (false || c .message))) (or-true ((sgi m || c .edge) && false))
     ∙ latched (sgi m || c .edge) (c .message)
@@ -115,21 +115,25 @@ group-hidden f d m c h = (ap (λ (b : Bool). cond b (shows f m c) 0) shut, ap (�
     shut : _≡_ {A = Bool} (c .implemented && mayTouch NonSecure f c) false
     shut = rw h (no (c .implemented))
 
--- ICFGR: SGI fields read edge and ignore writes; a field of an enabled interrupt ignores writes.
-pub field-ignored : (d m : ℕ) (c : Cell) → (sgi m || c .enabled) ≡ true → update Icfgr d m c ≡ c
+-- ICFGR: SGI fields read edge and ignore writes; a field of an enabled interrupt ignores writes; no other does.
+pub fixed-fields : (m : ℕ) (c : Cell) → fixedField m c ≡ (sgi m || c .enabled)
+unfolding fixedField
+fixed-fields m c = refl
+
+pub field-ignored : (d m : ℕ) (c : Cell) → fixedField m c ≡ true → update Icfgr d m c ≡ c
 unfolding update configured
-field-ignored d m c h = gated-true (sgi m || c .enabled) c (retriggered (leb 2 d) c) h
+field-ignored d m c h = gated-true (fixedField m c) c (retriggered (leb 2 d) c) h
 
 pub sgi-field : (m : ℕ) (c : Cell) → sgi m ≡ true → shows Icfgr m c ≡ 2
 unfolding shows edgeOf
 sgi-field m c h = rw h refl
 
 -- Otherwise the upper bit is the trigger; a write that changes it clears latch and message level, and one that does not changes nothing.
-pub field-same : (d m : ℕ) (c : Cell) → (sgi m || c .enabled) ≡ false → Bool·beq (leb 2 d) (c .edge) ≡ true → update Icfgr d m c ≡ c
+pub field-same : (d m : ℕ) (c : Cell) → fixedField m c ≡ false → Bool·beq (leb 2 d) (c .edge) ≡ true → update Icfgr d m c ≡ c
 unfolding update configured retriggered
 field-same d m c h k =
-    gated-false (sgi m || c .enabled) c (retriggered (leb 2 d) c) h
-    ∙ gated-true (Bool·beq (leb 2 d) (c .edge)) c (put Edge (leb 2 d) (put Latch false (put MessageLevel false c))) k
+    gated-false (fixedField m c) c (retriggered (leb 2 d) c) h
+    ∙ gated-true (Bool·beq (leb 2 d) (c .edge)) c (otherTrigger (leb 2 d) c) k
 
 pub record Retriggered (e : Bool) (c n : Cell) : Type 0 where
   pub edge-new : n .edge ≡ e
@@ -138,13 +142,13 @@ pub record Retriggered (e : Bool) (c n : Cell) : Type 0 where
   pub wire-stays : n .wire ≡ c .wire
   pub active-stays : n .active ≡ c .active
 
-pub field-changed : (d m : ℕ) (c : Cell) → (sgi m || c .enabled) ≡ false → Bool·beq (leb 2 d) (c .edge) ≡ false
+pub field-changed : (d m : ℕ) (c : Cell) → fixedField m c ≡ false → Bool·beq (leb 2 d) (c .edge) ≡ false
     → Retriggered (leb 2 d) c (update Icfgr d m c)
-unfolding update configured retriggered put
+unfolding update configured retriggered otherTrigger put
 field-changed d m c h k =
     subst⁻¹ (Retriggered (leb 2 d) c)
-    (gated-false (sgi m || c .enabled) c (retriggered (leb 2 d) c) h
-    ∙ gated-false (Bool·beq (leb 2 d) (c .edge)) c (put Edge (leb 2 d) (put Latch false (put MessageLevel false c))) k)
+    (gated-false (fixedField m c) c (retriggered (leb 2 d) c) h
+    ∙ gated-false (Bool·beq (leb 2 d) (c .edge)) c (otherTrigger (leb 2 d) c) k)
     (record { edge-new = refl; latch-gone = refl; message-gone = refl; wire-stays = refl; active-stays = refl })
 
 -- SETSPI makes an interrupt pending, and does nothing if it is.
@@ -187,7 +191,7 @@ unfolding wired put
 wire-stored level m c = refl
 
 pub wire-latch : (level : Bool) (m : ℕ) (c : Cell) → (wired level m c) .latch ≡ ((edgeOf m c && (level && not (c .wire))) || c .latch)
-unfolding wired put
+unfolding wired rises put
 wire-latch level m c = refl
 
 -- Activate sets active and clears the latch; wire and message level stay. Deactivate clears active.

@@ -25,7 +25,7 @@ use Rattle.types.specs.declared.Bit.the-variants.{Enabled, Latch, Wire, Message
 use Rattle.meaning.specs.Cell.{Cell, get, put, decode, nonSecure, sgi, edgeOf, pending}
 use Rattle.meaning.specs.Layout.{spi}
 use Rattle.meaning.specs.Registers.{digitBits, placeOf, writtenValue, first, names}
-use Rattle.meaning.specs.Rule.{Step, access, wire, activate, deactivate, reset, gated, sees, grouping, mayTouch, setting, clearing, retriggered, configured, update, reaches, touched, wordWritten, sets, maySend, delivered, messageSet, messageCleared, sent, messageWritten, written, accessed, wireAnswer, activateAnswer, deactivateAnswer, isDone, wired, activated, deactivated, act}
+use Rattle.meaning.specs.Rule.{Step, access, wire, activate, deactivate, reset, gated, sees, grouping, mayTouch, setting, clearing, retriggered, otherTrigger, fixedField, configured, update, reaches, touched, wordWritten, sets, maySend, addresses, delivered, messageSet, messageCleared, sent, messageWritten, written, accessed, wireAnswer, activateAnswer, deactivateAnswer, isDone, wired, activated, deactivated, act}
 use Rattle.meaning.specs.Sides.{owned, secure, writes, groupingAt, regroups}
 use Rattle.meaning.proofs.Cells.{gated-keeps, gated-both}
 
@@ -59,11 +59,10 @@ module _ (g : Cell → Bool) (steady : Steady g) where
   clear-kept b h d c = steady b h (not (eqb d 1) && get b c) c
 
   retriggered-kept : (e : Bool) (c : Cell) → g (retriggered e c) ≡ g c
-  unfolding retriggered
+  unfolding retriggered otherTrigger
   retriggered-kept e c =
-      gated-both g (Bool·beq e (c .edge)) c (put Edge e (put Latch false (put MessageLevel false c))) refl
-      (steady Edge refl e (put Latch false (put MessageLevel false c))
-      ∙ (steady Latch refl false (put MessageLevel false c) ∙ steady MessageLevel refl false c))
+      gated-both g (Bool·beq e (c .edge)) c (otherTrigger e c) refl
+      (steady Edge refl _ _ ∙ (steady Latch refl _ _ ∙ steady MessageLevel refl _ _))
 
   -- a write of any family, where a grouping family asks more
   update-kept : (f : Family) (d m : ℕ) (c : Cell) → (grouping f ≡ true → Blind g) → g (update f d m c) ≡ g c
@@ -76,7 +75,7 @@ module _ (g : Cell → Bool) (steady : Steady g) where
   update-kept Isactiver d m c h = set-kept Active refl d c
   update-kept Icactiver d m c h = clear-kept Active refl d c
   update-kept Igrpmodr d m c h = h refl .put-kept Modifier (eqb d 1) c
-  update-kept Icfgr d m c h = gated-both g (sgi m || c .enabled) c (retriggered (leb 2 d) c) refl (retriggered-kept (leb 2 d) c)
+  update-kept Icfgr d m c h = gated-both g (fixedField m c) c (retriggered _ c) refl (retriggered-kept _ c)
 
   -- the Non-secure side's writes to a grouping family do nothing
   touched-kept : (side : Side) (f : Family) (d m : ℕ) (c : Cell) → ((secure side && grouping f) ≡ true → Blind g) → g (touched side f d m c) ≡ g c
@@ -107,7 +106,7 @@ module _ (g : Cell → Bool) (steady : Steady g) where
   written-kept s side (place.Extended r f n) v m c h = word-kept side f (place.Extended r f n) v m c h
   written-kept s side place.Typer v m c h = refl
   written-kept s side (place.Message k) v m c h =
-      gated-both g (s .mbis && (eqb m (v % 8192) && spi m)) (delivered side k m c) c
+      gated-both g (addresses s v m) (delivered side k m c) c
       (gated-both g (c .implemented && maySend side k c) (sent k m c) c (sent-kept k m c) refl) refl
 
   accessed-kept : (s : Shape) (a : Access) (d : Decoded) (m : ℕ) (c : Cell) → ((secure (a .side) && (writes (a .way) && groupingAt d)) ≡ true → Blind g) → g (accessed s a d m c) ≡ g c
@@ -123,12 +122,12 @@ module _ (g : Cell → Bool) (steady : Steady g) where
   act-kept s (access a) m c h = accessed-kept s a (placeOf (a .frame) (a .width) (a .offset)) m c h
   act-kept s (wire k level) m c h =
       gated-keeps g (eqb k m && isDone (wireAnswer m c)) (wired level m c) c
-      (λ t. steady Latch refl ((edgeOf m c && (level && not (c .wire))) || c .latch) (put Wire level c) ∙ steady Wire refl level c)
+      (λ t. steady Latch refl _ _ ∙ steady Wire refl _ _)
   act-kept s (activate side k) m c h =
       gated-keeps g (eqb k m && isDone (activateAnswer side m c)) (activated c) c
-      (λ t. steady Active refl true (put Latch false c) ∙ steady Latch refl false c)
+      (λ t. steady Active refl _ _ ∙ steady Latch refl _ _)
   act-kept s (deactivate side k) m c h =
-      gated-keeps g (eqb k m && isDone (deactivateAnswer side m c)) (deactivated c) c (λ t. steady Active refl false c)
+      gated-keeps g (eqb k m && isDone (deactivateAnswer side m c)) (deactivated c) c (λ t. steady Active refl _ _)
   act-kept s reset m c h = h refl .zero-kept c
 
 -- Three views: presence, which no step changes, and the two grouping bits, which only a step that regroups does.

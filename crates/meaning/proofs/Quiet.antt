@@ -19,7 +19,7 @@ use Rattle.types.specs.declared.Answer.{Answer}
 use Rattle.meaning.specs.Cell.{Cell}
 use Rattle.meaning.specs.Layout.{between, spi}
 use Rattle.meaning.specs.Registers.{digitBits, first, count, names}
-use Rattle.meaning.specs.Rule.{gated, isDone, update, reaches, touched, wordWritten, delivered, messageWritten}
+use Rattle.meaning.specs.Rule.{gated, isDone, update, reaches, touched, wordWritten, addresses, delivered, messageWritten}
 use Rattle.meaning.proofs.Cells.{gated-keeps, gated-both, gated-shut, setting-zero, clearing-zero}
 use Rattle.meaning.proofs.Homes.{between-low, between-high}
 
@@ -79,11 +79,13 @@ bit-quiet side f p v x m c h one many only ne = word-quiet side f p v m c h zero
         rw one (other-bit v x (m - first p) only (omega arith) (λ e. ne (omega arith)))
 
 -- a message names one INTID
+addressed : (s : Shape) (v m : ℕ) → addresses s v m ≡ true → m ≡ v % 8192
+unfolding addresses
+addressed s v m t = eqb-true m (v % 8192) (and-left (eqb m (v % 8192)) (spi m) (and-right (s .mbis) (eqb m (v % 8192) && spi m) t))
+
 pub message-quiet : (s : Shape) (side : Side) (g : message.Message) (v m : ℕ) (c : Cell) → (m ≡ v % 8192 → ⊥) → messageWritten s side g v m c ≡ c
 unfolding messageWritten
-message-quiet s side g v m c ne =
-    gated-shut (s .mbis && (eqb m (v % 8192) && spi m)) (delivered side g m c) c
-    (λ t. ne (eqb-true m (v % 8192) (and-left (eqb m (v % 8192)) (spi m) (and-right (s .mbis) (eqb m (v % 8192) && spi m) t))))
+message-quiet s side g v m c ne = gated-shut (addresses s v m) (delivered side g m c) c (λ t. ne (addressed s v m t))
 
 -- and so does an event
 pub event-quiet : (k m : ℕ) (a : Answer) (new c : Cell) → (m ≡ k → ⊥) → gated (eqb k m && isDone a) new c ≡ c

@@ -33,7 +33,7 @@ use Rattle.types.specs.declared.Bit.the-variants.{Enabled, Latch, Wire, Message
 use Rattle.meaning.specs.Cell.{Cell, get, put, decode, nonSecure, sgi, edgeOf, pending}
 use Rattle.meaning.specs.Layout.{spi}
 use Rattle.meaning.specs.Registers.{digitBits, placeOf, writtenValue, first, names}
-use Rattle.meaning.specs.Rule.{Step, access, wire, activate, deactivate, reset, gated, sees, grouping, mayTouch, setting, clearing, retriggered, update, shows, reaches, touched, visible, wordWritten, secureOnly, maySend, sent, delivered, messageWritten, written, accessed, wireAnswer, activateAnswer, deactivateAnswer, isDone, first-of, wired, activated, deactivated, act}
+use Rattle.meaning.specs.Rule.{Step, access, wire, activate, deactivate, reset, gated, sees, grouping, mayTouch, setting, clearing, retriggered, update, shows, reaches, touched, visible, wordWritten, secureOnly, maySend, sent, addresses, delivered, messageWritten, written, accessed, wireAnswer, activateAnswer, deactivateAnswer, isDone, first-of, wired, activated, deactivated, act}
 use Rattle.meaning.specs.Sides.{owned, sideOf, permitted, isReset, regroups}
 use Rattle.meaning.proofs.Cells.{gated-both, gated-shut}
 
@@ -94,7 +94,7 @@ module _ (s : Shape) (side : Side) (m : ℕ) (c : Cell) (shut : (c .implemented 
 
   message-left : (g : message.Message) (v : ℕ) → messageWritten s side g v m c ≡ c
   unfolding messageWritten
-  message-left g v = gated-both (λ x. x) (s .mbis && (eqb m (v % 8192) && spi m)) (delivered side g m c) c (delivered-left g) refl
+  message-left g v = gated-both (λ x. x) (addresses s v m) (delivered side g m c) c (delivered-left g) refl
 
   written-left : (p : Place) (v : ℕ) → written s side p v m c ≡ c
   unfolding written

@@ -68,12 +68,18 @@ unfoldable pub clearing : Bit → ℕ → Cell → Cell
 clearing b d c = put b (not (eqb d 1) && get b c) c
 
 -- HOUSE: a write that changes the trigger clears latch and message level
-unfoldable pub retriggered : Bool → Cell → Cell
-retriggered e c = gated (Bool·beq e (c .edge)) c (put Edge e (put Latch false (put MessageLevel false c)))
+unfoldable pub otherTrigger : Bool → Cell → Cell
+otherTrigger e c = put Edge e (put Latch false (put MessageLevel false c))
 
--- ICFGR: the digit's upper bit is edge. SGI fields ignore writes, and so (HOUSE) do those of enabled interrupts.
+unfoldable pub retriggered : Bool → Cell → Cell
+retriggered e c = gated (Bool·beq e (c .edge)) c (otherTrigger e c)
+
+-- ICFGR: SGI fields ignore writes, and so (HOUSE) do those of enabled interrupts. The digit's upper bit is edge.
+unfoldable pub fixedField : ℕ → Cell → Bool
+fixedField m c = sgi m || c .enabled
+
 unfoldable pub configured : ℕ → ℕ → Cell → Cell
-configured d m c = gated (sgi m || c .enabled) c (retriggered (leb 2 d) c)
+configured d m c = gated (fixedField m c) c (retriggered (leb 2 d) c)
 
 -- what writing the digit d of a family does
 unfoldable pub update : Family → ℕ → ℕ → Cell → Cell
@@ -146,9 +152,13 @@ sent g m c = gated (sets g) (messageSet m c) (messageCleared m c)
 unfoldable pub delivered : Side → message.Message → ℕ → Cell → Cell
 delivered side g m c = gated (c .implemented && maySend side g c) (sent g m c) c
 
--- a write of v to a message register: INTID is value bits 12:0, and no other than an SPI or extended SPI
+-- a message of value v names m: INTID is value bits 12:0, and no other than an SPI or extended SPI
+unfoldable pub addresses : Shape → ℕ → ℕ → Bool
+addresses s v m = s .mbis && (eqb m (v % 8192) && spi m)
+
+-- a write of v to a message register
 unfoldable pub messageWritten : Shape → Side → message.Message → ℕ → ℕ → Cell → Cell
-messageWritten s side g v m c = gated (s .mbis && (eqb m (v % 8192) && spi m)) (delivered side g m c) c
+messageWritten s side g v m c = gated (addresses s v m) (delivered side g m c) c
 
 -- a write of v to a place
 unfoldable pub written : Shape → Side → Place → ℕ → ℕ → Cell → Cell
@@ -185,8 +195,11 @@ isDone (Done v) = true
 isDone (Refused r) = false
 
 -- the wire's level is stored; a rise on an edge interrupt sets the latch
+unfoldable pub rises : Bool → ℕ → Cell → Bool
+rises level m c = edgeOf m c && (level && not (c .wire))
+
 unfoldable pub wired : Bool → ℕ → Cell → Cell
-wired level m c = put Latch ((edgeOf m c && (level && not (c .wire))) || c .latch) (put Wire level c)
+wired level m c = put Latch (rises level m c || c .latch) (put Wire level c)
 
 -- activation sets active and clears the latch; wire and message level stay
 unfoldable pub activated : Cell → Cell

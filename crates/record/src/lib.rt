@@ -1,6 +1,3 @@
-// One record byte, by scalar functions: each is the meaning's rule on the cell of that byte.
+// One record byte: its bits, and what it says of its interrupt. Each function is the meaning's on the cell of that byte.
 pub mod bits;
-pub mod event;
-pub mod message;
 pub mod view;
-pub mod write;

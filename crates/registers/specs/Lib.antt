@@ -1,2 +1,1 @@
 pub mod Map
-pub mod Entry

@@ -1,0 +1,41 @@
+use Rattle.meaning.specs.Cell.{get, decode}
+use Rattle.meaning.specs.Rule.{activateAnswer}
+use borrow.Author.Needs.{needs}
+use Rattle.effects.proofs.event.activate_answer.Statement.{statement}
+use Rattle.effects.proofs.event.activate_answer.Tie as tie
+
+side-sees-requires : tie.Need-side-sees-requires
+side-sees-requires c κs = search needs
+
+returns : tie.Need-returns
+unfolding activateAnswer decode get
+returns c = rw (← (c .before .side-sees .ensures (c .before .before .args .implemented)), c .if1 .taken)
+
+has-requires : tie.Need-has-requires
+has-requires c κs = search needs
+
+is-pending-requires : tie.Need-is-pending-requires
+is-pending-requires c κs = search needs
+
+has-requires-2 : tie.Need-has-requires-2
+has-requires-2 c κs = search needs
+
+returns-2 : tie.Need-returns-2
+unfolding activateAnswer decode get
+returns-2 c = rw (← (c .before .before .before .before .before .side-sees .ensures (c .before .before .before .before .before .before .args .implemented)), c .before .before .before .before .if1 .left, ← (c .before .before .is-pending .ensures (c .before .before .before .before .before .before .args .implemented)), ← (c .before .before .before .has .ensures (c .before .before .before .before .before .before .args .implemented)), ← (c .before .has2 .ensures (c .before .before .before .before .before .before .args .implemented)), c .if2 .taken)
+
+returns-3 : tie.Need-returns-3
+unfolding activateAnswer decode get
+returns-3 c = rw (← (c .before .before .before .before .before .side-sees .ensures (c .before .before .before .before .before .before .args .implemented)), c .before .before .before .before .if1 .left, ← (c .before .before .is-pending .ensures (c .before .before .before .before .before .before .args .implemented)), ← (c .before .before .before .has .ensures (c .before .before .before .before .before .before .args .implemented)), ← (c .before .has2 .ensures (c .before .before .before .before .before .before .args .implemented)), c .if2 .left)
+
+pub activate-answer-spec : {M : Type 1} → statement M
+activate-answer-spec =
+    tie.close
+    (tie.spec
+    side-sees-requires
+    returns
+    has-requires
+    is-pending-requires
+    has-requires-2
+    returns-2
+    returns-3)
