@@ -40,7 +40,7 @@ impl Shape {
 
     /// "TYPER reads lines + 2^8·(espi > 0) + 2^10 + 2^16·mbis + 12·2^19 + 2^25
     /// + 2^27·(espi - 1 if espi > 0, else 0)." Asked of shapes within limits only.
-    pub fn typer(self) -> u32 {
+    pub(crate) fn typer(self) -> u32 {
         let extended = match self.espi {
             0 => 0,
             words => (1 << 8) + ((words - 1) << 27),

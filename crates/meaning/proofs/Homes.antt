@@ -37,14 +37,25 @@ pub record Kept (m : ℕ) (r : Frame) (k : ℕ) : Type 0 where
   pub back : intidOf r k ≡ m
   pub inside : k < slots r
 
+-- what holds of each range's home, and of nowhere, holds of every INTID's
+choose : (P : Home → Type 0) (b : Bool) (h k : Home) → (b ≡ true → P h) → P k → P (orElse b h k)
+choose P true h k r s = r refl
+choose P false h k r s = s
+
+pub home-cases : (P : Home → Type 0) (m : ℕ) → (m < 32 → P (Slot Redist m 0)) → (32 ≤ m → m < 1020 → P (Slot Dist (m - 32) (m / 32 - 1)))
+    → (1056 ≤ m → m < 1120 → P (Slot Redist (32 + (m - 1056)) ((m - 1024) / 32)))
+    → (4096 ≤ m → m < 5120 → P (Slot Dist (988 + (m - 4096)) (31 + (m - 4096) / 32))) → P Nowhere → P (homeOf m)
+unfolding homeOf
+home-cases P m low spi eppi espi none =
+    choose P (between 0 32 m) _ _ (λ t. low (between-high 0 32 m t))
+    (choose P (between 32 1020 m) _ _ (λ t. spi (between-low 32 1020 m t) (between-high 32 1020 m t))
+    (choose P (between 1056 1120 m) _ _ (λ t. eppi (between-low 1056 1120 m t) (between-high 1056 1120 m t))
+    (choose P (between 4096 5120 m) _ _ (λ t. espi (between-low 4096 5120 m t) (between-high 4096 5120 m t)) none)))
+
 -- a home, and what it says where it is a slot
 abbrev Right : ℕ → Home → Type 0
 Right m (Slot r k w) = Kept m r k
 Right m Nowhere = Unit
-
-choose : (m : ℕ) (b : Bool) (h k : Home) → (b ≡ true → Right m h) → Right m k → Right m (orElse b h k)
-choose m true h k r s = r refl
-choose m false h k r s = s
 
 low-back : (m : ℕ) → m < 32 → Kept m Redist m
 unfolding intidOf
@@ -63,15 +74,25 @@ unfolding intidOf
 espi-back m h k = let l : 988 ≤ 988 + (m - 4096) = omega arith in record { back = rw (le-ltb (988 + (m - 4096)) 988 l) (omega arith); inside = omega arith }
 
 right : (m : ℕ) → Right m (homeOf m)
-unfolding homeOf
-right m =
-    choose m (between 0 32 m) _ _ (λ t. low-back m (between-high 0 32 m t))
-    (choose m (between 32 1020 m) _ _ (λ t. spi-back m (between-low 32 1020 m t) (between-high 32 1020 m t))
-    (choose m (between 1056 1120 m) _ _ (λ t. eppi-back m (between-low 1056 1120 m t) (between-high 1056 1120 m t))
-    (choose m (between 4096 5120 m) _ _ (λ t. espi-back m (between-low 4096 5120 m t) (between-high 4096 5120 m t)) tt)))
+right m = home-cases (Right m) m (low-back m) (spi-back m) (eppi-back m) (espi-back m) tt
 
 pub home-kept : (m : ℕ) (r : Frame) (k w : ℕ) → homeOf m ≡ Slot r k w → Kept m r k
 home-kept m r k w h = rw h at (right m)
+
+-- how many presence words a table has; each home's is one of them
+abbrev pub presenceWords : Frame → ℕ
+presenceWords Dist = 63
+presenceWords Redist = 3
+
+abbrev Worded : Home → Type 0
+Worded (Slot r k w) = w < presenceWords r
+Worded Nowhere = Unit
+
+worded : (m : ℕ) → Worded (homeOf m)
+worded m = home-cases Worded m (λ a. omega arith) (λ a b. omega arith) (λ a b. omega arith) (λ a b. omega arith) tt
+
+pub home-word : (m : ℕ) (r : Frame) (k w : ℕ) → homeOf m ≡ Slot r k w → w < presenceWords r
+home-word m r k w h = rw h at (worded m)
 
 -- The home of each INTID, range by range.
 pub home-low : (m : ℕ) → m < 32 → homeOf m ≡ Slot Redist m 0

@@ -1,0 +1,5 @@
+pub mod Numbers
+pub mod Ranges
+pub mod Masks
+pub mod Spans
+pub mod Located
