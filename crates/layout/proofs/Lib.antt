@@ -3,3 +3,4 @@ pub mod Ranges
 pub mod Masks
 pub mod Spans
 pub mod Located
+pub mod Valid

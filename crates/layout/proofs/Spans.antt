@@ -1,7 +1,9 @@
 -- The slots of a span are the INTIDs of its word, and no other slot of either table is.
 use mathlib.Core.Path.{_≡_, refl, sym, ap, _∙_}
 use mathlib.Core.Bool.{Bool, true, false, cond, not, _&&_}
+use mathlib.Core.Logic.{_⊎_, inl, inr, ⊎-elim}
 use Prim.Native.Nat.{ℕ, _+_, _*_, _-_, _≤_, _<_, min}
+use native.Mathlib.Nat.{le-refl}
 use native.Mathlib.Omega.{arith}
 use lib.Dec.{ltb}
 use borrow.Author.Tests.{ltb-true, ltb-false, not-true}
@@ -13,7 +15,8 @@ use Rattle.types.specs.declared.Place.{Place}
 use Rattle.types.specs.declared.Place.the-variants.{Word, Extended, Typer, Message}
 use Rattle.meaning.specs.Layout.{between, intidOf}
 use Rattle.meaning.specs.Registers.{digitBits, perWord, distWords, redistWords, low, first, res0, count, names}
-use Rattle.meaning.proofs.Homes.{between-in, between-below, between-above, between-low, between-high, slots}
+use Rattle.meaning.proofs.Families.{by-kind}
+use Rattle.meaning.proofs.Homes.{between-in, between-low, between-high, slots}
 use Rattle.layout.specs.Span.{valid, frameOf, startOf, endOf}
 use Rattle.layout.proofs.Numbers.{dist-covers, redist-covers, low-covers, high-covers, per-large}
 
@@ -151,3 +154,86 @@ spanned (Extended Redist f n) v =
     redist-extended f n (ltb-false n (digitBits f) (not-true (low f n) (and-left (not (low f n)) _ v))) (ltb-true n (redistWords f) (and-right (not (low f n)) _ v))
 spanned Typer v = empty Typer refl refl
 spanned (Message g) v = empty (Message g) refl refl
+
+-- no slot of the other table is named
+redist-missed : (p : Place) → ((m : ℕ) → (first p ≤ m) × (m < first p + count p) → ((32 ≤ m) × (m < 1056)) ⊎ (1120 ≤ m)) → (k : ℕ) → k < 96 → names p (intidOf Redist k) ≡ false
+unfolding names intidOf
+redist-missed p h k l =
+    by-run (λ m. between (first p) (first p + count p) m ≡ false) k 32 k (1056 + (k - 32))
+    (λ z. none (first p) (first p + count p) k (λ q. ⊎-elim (λ u. let a = u .0 in omega arith) (λ u. omega arith) (h k q)))
+    (λ z. none (first p) (first p + count p) (1056 + (k - 32)) (λ q. ⊎-elim (λ u. let a = u .1 in omega arith) (λ u. omega arith) (h (1056 + (k - 32)) q)))
+
+dist-missed : (p : Place) → ((m : ℕ) → (first p ≤ m) × (m < first p + count p) → (m < 32) ⊎ ((1056 ≤ m) × (m < 1120))) → (k : ℕ) → k < 2012 → names p (intidOf Dist k) ≡ false
+unfolding names intidOf
+dist-missed p h k l =
+    by-run (λ m. between (first p) (first p + count p) m ≡ false) k 988 (32 + k) (4096 + (k - 988))
+    (λ z. none (first p) (first p + count p) (32 + k) (λ q. ⊎-elim (λ u. omega arith) (λ u. let a = u .0 in omega arith) (h (32 + k) q)))
+    (λ z. none (first p) (first p + count p) (4096 + (k - 988)) (λ q. ⊎-elim (λ u. omega arith) (λ u. let a = u .1 in omega arith) (h (4096 + (k - 988)) q)))
+
+-- the other frame
+abbrev pub other : Frame → Frame
+other Dist = Redist
+other Redist = Dist
+
+pub missed : (p : Place) → valid p ≡ true → (k : ℕ) → k < slots (other (frameOf p)) → names p (intidOf (other (frameOf p)) k) ≡ false
+unfolding valid frameOf first count res0
+missed (Word Dist f n) v k l = by (low f n) refl
+  where
+    by : (b : Bool) → low f n ≡ b → names (Word Dist f n) (intidOf Redist k) ≡ false
+    by true e = let z = count-low f n true e in redist-missed (Word Dist f n) (λ m q. absurd (let a = q .0 in let b = q .1 in omega arith)) k l
+    by false e =
+        let z = count-low f n false e in
+        let cov = dist-covers f n (ltb-true n (distWords f) v) in
+        let hi = high-covers f n (ltb-false n (digitBits f) e) in
+        redist-missed (Word Dist f n) (λ m q. inl (let a = q .0 in let b = q .1 in omega arith)) k l
+missed (Word Redist f n) v k l =
+    let cov = low-covers f n (ltb-true n (digitBits f) v) in
+    dist-missed (Word Redist f n) (λ m q. inl (let a = q .0 in let b = q .1 in omega arith)) k l
+missed (Extended Dist f n) v k l = redist-missed (Extended Dist f n) (λ m q. inr (let a = q .0 in omega arith)) k l
+missed (Extended Redist f n) v k l =
+    let cov = redist-covers f n (ltb-true n (redistWords f) (and-right (not (low f n)) _ v)) in
+    let hi = high-covers f n (ltb-false n (digitBits f) (not-true (low f n) (and-left (not (low f n)) _ v))) in
+    dist-missed (Extended Redist f n) (λ m q. inr (let a = q .0 in let b = q .1 in omega arith)) k l
+missed Typer v k l = redist-missed Typer (λ m q. absurd (let a = q .0 in let b = q .1 in omega arith)) k l
+missed (Message g) v k l = redist-missed (Message g) (λ m q. absurd (let a = q .0 in let b = q .1 in omega arith)) k l
+
+-- a word's digits fit its 32 bits, and its INTIDs are small
+count-fits : (f : Family) → perWord f * digitBits f ≤ 32
+count-fits f = by-kind (λ b p d r. p * b ≤ 32) (omega arith) (omega arith) f
+
+cond-le : (b : Bool) (n : ℕ) → cond b 0 n ≤ n
+cond-le true n = omega arith
+cond-le false n = omega arith
+
+pub count-small : (r : Frame) (f : Family) (n : ℕ) → (count (Word r f n) ≤ perWord f) × (count (Extended r f n) ≤ perWord f)
+unfolding count
+count-small r f n = (cond-le (res0 (Word r f n)) (perWord f), le-refl (perWord f))
+
+pub digits-fit : (f : Family) (n : ℕ) → n ≤ perWord f → n * digitBits f ≤ 32
+digits-fit f n = by-kind (λ b p d r. n ≤ p → n * b ≤ 32) (λ h. let u : n ≤ 32 = h in omega arith) (λ h. let u : n ≤ 16 = h in omega arith) f
+
+pub first-small : (p : Place) → valid p ≡ true → first p ≤ 8192
+unfolding valid first
+first-small (Word Dist f n) v = let c = dist-covers f n (ltb-true n (distWords f) v) in omega arith
+first-small (Word Redist f n) v = let c = low-covers f n (ltb-true n (digitBits f) v) in omega arith
+first-small (Extended Dist f n) v = let c = dist-covers f n (ltb-true n (distWords f) v) in omega arith
+first-small (Extended Redist f n) v = let c = redist-covers f n (ltb-true n (redistWords f) (and-right (not (low f n)) _ v)) in omega arith
+first-small Typer v = omega arith
+first-small (Message g) v = omega arith
+
+-- the digits past the span are of INTIDs 1020 to 1023, which are no interrupts
+pub past-span : (p : Place) → valid p ≡ true → (x : ℕ) → x < count p → endOf p - startOf p ≤ x → (1020 ≤ first p + x) × (first p + x < 1056)
+unfolding valid first count res0 startOf endOf
+past-span (Word Dist f n) v x h l = by (low f n) refl h l
+  where
+    by : (b : Bool) → low f n ≡ b → x < cond b 0 (perWord f) → cond b 0 (min 988 (perWord f * n - 32 + perWord f)) - cond b 0 (perWord f * n - 32) ≤ x → (1020 ≤ perWord f * n + x) × (perWord f * n + x < 1056)
+    by true e k u = absurd (omega arith)
+    by false e k u =
+        let cov = dist-covers f n (ltb-true n (distWords f) v) in
+        let hi = high-covers f n (ltb-false n (digitBits f) e) in
+        (omega arith, omega arith)
+past-span (Word Redist f n) v x h l = absurd (omega arith)
+past-span (Extended Dist f n) v x h l = absurd (omega arith)
+past-span (Extended Redist f n) v x h l = absurd (omega arith)
+past-span Typer v x h l = absurd (omega arith)
+past-span (Message g) v x h l = absurd (omega arith)

@@ -6,7 +6,7 @@ ghost use lib.Dec.{leb, ltb};
 ghost use lib.ListN.{length, getD};
 ghost use Rattle.types.specs.declared.Frame.the-variants.{Dist, Redist};
 ghost use Rattle.types.specs.declared.Place.the-variants.{Word};
-ghost use Rattle.meaning.specs.Registers.{perWord, distWords, redistWords};
+ghost use Rattle.meaning.specs.Registers.{perWord, distWords, redistWords, first};
 ghost use Rattle.layout.specs.Span.{valid, frameOf, startOf, endOf, bankOf, halfOf, Presence, presences, maskOf};
 use registers::families::digit_bits;
 use registers::families::per_word;
@@ -81,6 +81,22 @@ pub fn span_of(place: Place) -> Span
         },
         Place::Typer => whole(Frame::Dist, 0, 0),
         Place::Message(_) => whole(Frame::Dist, 0, 0),
+    }
+}
+
+// The INTID of a register word's first digit.
+pub fn first_of(place: Place) -> u32
+    requires { ⌜ valid place ≡ true ⌝ }
+    ensures { λ m. ⌜ m ≡ first place ⌝ }
+{
+    match place {
+        Place::Word(_, f, n) => per_word(f) * n,
+        Place::Extended(frame, f, n) => match frame {
+            Frame::Dist => 4096 + per_word(f) * n,
+            Frame::Redist => 1024 + per_word(f) * n,
+        },
+        Place::Typer => 0,
+        Place::Message(_) => 0,
     }
 }
 

@@ -1,7 +1,7 @@
 -- Rows of digits: how large they are, how one more digit is or-ed in, and what they depend on.
 use mathlib.Core.Path.{_≡_, refl, sym, ap, ap₂, _∙_, subst}
 use Prim.Native.Nat.{ℕ, zero, suc, _+_, _*_, _/_, _%_, _^_, _≤_, _<_}
-use native.Mathlib.Nat.{mul-suc, mul-zero, add-comm, mul-comm, mod-eq-of-lt, lt-of-lt-of-le, le-refl}
+use native.Mathlib.Nat.{mul-suc, mul-zero, zero-mul, add-comm, add-zero, add-suc}
 use native.Mathlib.Numerals.{add-one}
 use native.Mathlib.Omega.{arith}
 use lib.Arith.{digits-lt}
@@ -37,3 +37,12 @@ pub row-same : (w n : ℕ) (f g : ℕ → ℕ) → ((x : ℕ) → x < n → f x 
 unfolding row
 row-same w zero f g h = refl
 row-same w (suc n) f g h = ap₂ (λ (a b : ℕ). a + b * 2 ^ (w * n)) (row-same w n f g (λ x l. h x (omega arith))) (h n (omega arith))
+
+-- digits that are 0 past the first k leave the row of those
+pub row-cut : (w n k : ℕ) (f : ℕ → ℕ) → ((x : ℕ) → k ≤ x → f x ≡ 0) → row w (k + n) f ≡ row w k f
+unfolding row
+row-cut w zero k f h = ap (λ (m : ℕ). row w m f) (add-zero k)
+row-cut w (suc n) k f h =
+    ap (λ (m : ℕ). row w m f) (add-suc k n)
+    ∙ (ap₂ (λ (a b : ℕ). a + b * 2 ^ (w * (k + n))) (row-cut w n k f h) (h (k + n) (omega arith))
+    ∙ ap (λ (m : ℕ). row w k f + m) (zero-mul (2 ^ (w * (k + n)))) ∙ add-zero (row w k f))

@@ -18,7 +18,7 @@ use Rattle.types.specs.declared.Home.{Home}
 use Rattle.types.specs.declared.Home.the-variants.{Slot, Nowhere}
 use Rattle.meaning.specs.Layout.{Tables, recordsOf, presenceOf, lengthsFit, shapeFits, wellFormed, inRange, homeOf, intidOf, presentAt, byteAt, implemented, cellOf}
 use Rattle.meaning.specs.Rule.{Step, access, wire, activate, deactivate, reset, act}
-use Rattle.meaning.specs.Step.{recordsAfter, tablesAfter}
+use Rattle.meaning.specs.Step.{ruled, recordsAfter, tablesAfter}
 use Rattle.meaning.specs.Sides.{isReset}
 use Rattle.meaning.proofs.Bytes.{decode-encode}
 use Rattle.meaning.proofs.Rules.{missing-left}
@@ -52,7 +52,7 @@ records-after s q t Redist = refl
 -- at a slot: the byte after is the rule's
 slot-after : (s : Shape) (q : Step) (t : Tables) → lengthsFit t ≡ true → (m : ℕ) (r : Frame) (k : ℕ) → Kept m r k
     → getD (recordsOf r (tablesAfter s q t)) k 0 ≡ encode (act s q m (decode (implemented s t m) (getD (recordsOf r t) k 0)))
-unfolding recordsAfter
+unfolding recordsAfter ruled
 slot-after s q t fit m r k kept =
     ap (λ (xs : List ℕ). getD xs k 0) (records-after s q t r)
     ∙ (at-mapFrom (λ j byte. encode (act s q (intidOf r j) (decode (implemented s t (intidOf r j)) byte))) (recordsOf r t) k (rw (records-length t fit r) (kept .inside))
