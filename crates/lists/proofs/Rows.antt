@@ -39,10 +39,10 @@ row-same w zero f g h = refl
 row-same w (suc n) f g h = ap₂ (λ (a b : ℕ). a + b * 2 ^ (w * n)) (row-same w n f g (λ x l. h x (omega arith))) (h n (omega arith))
 
 -- digits that are 0 past the first k leave the row of those
-pub row-cut : (w n k : ℕ) (f : ℕ → ℕ) → ((x : ℕ) → k ≤ x → f x ≡ 0) → row w (k + n) f ≡ row w k f
+pub row-cut : (w n k : ℕ) (f : ℕ → ℕ) → ((x : ℕ) → k ≤ x → x < k + n → f x ≡ 0) → row w (k + n) f ≡ row w k f
 unfolding row
 row-cut w zero k f h = ap (λ (m : ℕ). row w m f) (add-zero k)
 row-cut w (suc n) k f h =
     ap (λ (m : ℕ). row w m f) (add-suc k n)
-    ∙ (ap₂ (λ (a b : ℕ). a + b * 2 ^ (w * (k + n))) (row-cut w n k f h) (h (k + n) (omega arith))
+    ∙ (ap₂ (λ (a b : ℕ). a + b * 2 ^ (w * (k + n))) (row-cut w n k f (λ x l u. h x l (omega arith))) (h (k + n) (omega arith) (omega arith))
     ∙ ap (λ (m : ℕ). row w k f + m) (zero-mul (2 ^ (w * (k + n)))) ∙ add-zero (row w k f))

@@ -19,6 +19,9 @@ pub record Tables : Type 0 where
   pub distPresence : List ℕ
   pub redistPresence : List ℕ
 
+abbrev pub lent : List ℕ → List ℕ → List ℕ → List ℕ → Tables
+lent d r dp rp = record { dist = d; redist = r; distPresence = dp; redistPresence = rp }
+
 abbrev pub recordsOf : Frame → Tables → List ℕ
 recordsOf Dist t = t .dist
 recordsOf Redist t = t .redist
