@@ -1,0 +1,7 @@
+-- Demand 3, from the top:
+--   Machine     any machine that acts interrupt by interrupt, its runs, and when two of its states are alike
+--   Steps       Non-secure steps, and the private Secure steps of document 01
+--   Lent        runs on the lent tables; tables alike; the table where no Secure interrupt exists
+pub mod Machine
+pub mod Steps
+pub mod Lent
