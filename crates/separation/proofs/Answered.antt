@@ -44,6 +44,7 @@ word-answered s t well a p w small even h = by (a .way) (answer-well s (access a
   where
     there : placeOf (a .frame) (a .width) (a .offset) ≡ At p
     there = ap (λ (n : ℕ). placeOf (a .frame) n (a .offset)) w ∙ listed-placed (a .frame) (a .offset) p small even h
+
     by : (x : Way) → (stepped s (access a) t) .answered ≡ elim x as (λ z. Answer) [ Read ↦ Done (read s (a .side) p (cellOf s t)) | Write ↦ Done 0 ] → (v : ℕ) × ((stepped s (access a) t) .answered ≡ Done v)
     by Read e = (read s (a .side) p (cellOf s t), e)
     by Write e = (0, e)

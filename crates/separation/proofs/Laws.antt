@@ -163,6 +163,7 @@ module _ (s : Shape) (a b : Cells) (alike : Alike (controller s) a b) where
     where
       value : read s (x .side) p a ≡ read s (x .side) p b
       value = subst (λ (side : Side). read s side p a ≡ read s side p b) (sym h) (same-read p)
+
       by : (w : Way) → _≡_ {A = Answer} (elim w [ Read ↦ Done (read s (x .side) p a) | Write ↦ Done 0 ]) (elim w [ Read ↦ Done (read s (x .side) p b) | Write ↦ Done 0 ])
       by Read = ap Done value
       by Write = refl

@@ -67,9 +67,10 @@ module _ {C Q A : Type 0} (M : Machine C Q A) (Public Private : Q → (ℕ → C
   two-runs r r' a b same h k k' =
       let x = without-private r a b h k in
       let y = without-private r' b b (alike-refl M b) k' in
-      let y' : Agree M (seen M b r') (seen M b (alone M (publics r))) × Alike M (ended M b r') (ended M b (alone M (publics r))) = rw (← same) at y in
-      (agree-trans M (seen M a r) (seen M b (alone M (publics r))) (seen M b r') (x .0) (agree-sym M (seen M b r') (seen M b (alone M (publics r))) (y' .0))
-      , alike-trans M (ended M a r) (ended M b (alone M (publics r))) (ended M b r') (x .1) (alike-sym M (ended M b r') (ended M b (alone M (publics r))) (y' .1)))
+      let y' : Agree M (seen M b r') (seen M b (alone M (publics r))) × Alike M (ended M b r') (ended M b (alone M (publics r))) = rw (← same) at y in (
+        agree-trans M (seen M a r) (seen M b (alone M (publics r))) (seen M b r') (x .0) (agree-sym M (seen M b r') (seen M b (alone M (publics r))) (y' .0)),
+        alike-trans M (ended M a r) (ended M b (alone M (publics r))) (ended M b r') (x .1) (alike-sym M (ended M b r') (ended M b (alone M (publics r))) (y' .1)),
+      )
 
   -- no Non-secure step of a run changes what the Non-secure side does not own; nor does a run of Non-secure steps alone
   pub run-left : (qs : List Q) (a : ℕ → C) → Honest M Public Private a (alone M qs) → (m : ℕ) → M .owns (a m) ≡ false → ended M a (alone M qs) m ≡ a m
