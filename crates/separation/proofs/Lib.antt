@@ -2,3 +2,4 @@ pub mod Runs
 pub mod Laws
 pub mod Tables
 pub mod Answered
+pub mod ReadBack
