@@ -3,3 +3,4 @@ pub mod Laws
 pub mod Tables
 pub mod Answered
 pub mod ReadBack
+pub mod Cleared

@@ -22,7 +22,7 @@ use Rattle.promises.proofs.Refused.{answer-well, well-kept}
 use Rattle.separation.specs.Machine.{Machine, after, Alike, Item, public, private, publics, Seen, seen, ended, Agree, Honest}
 use Rattle.separation.specs.Steps.{controller, NonSecureStep, PrivateStep}
 use Rattle.separation.specs.Lent.{outcomes, finally, Run, AlikeTables, viewed, AgreeOutcomes}
-use Rattle.separation.proofs.Runs.{alone, two-runs, run-left}
+use Rattle.separation.proofs.Runs.{alone, alike-refl, without-private, alone-honest, two-runs, run-left}
 use Rattle.separation.proofs.Laws.{controller-separate}
 
 -- every interrupt of the tables after a step is the machine's
@@ -52,6 +52,31 @@ unfolding HonestRun
 run-honest s [] t well h = tt
 run-honest s (public q ∷ r) t well h = (h .0, subst (λ (c : ℕ → Cell). Honest (controller s) (λ q c. NonSecureStep c q) (λ q c. PrivateStep s c q) c r) (cells-after s q t well) (run-honest s r ((stepped s q t) .tables) (well-kept s q t well) (h .1)))
 run-honest s (private q ∷ r) t well h = (h .0, subst (λ (c : ℕ → Cell). Honest (controller s) (λ q c. NonSecureStep c q) (λ q c. PrivateStep s c q) c r) (cells-after s q t well) (run-honest s r ((stepped s q t) .tables) (well-kept s q t well) (h .1)))
+
+-- and back
+honest-run : (s : Shape) (r : List (Item Step)) (t : Tables) → wellFormed s t ≡ true → HonestRun s (cellOf s t) r → Run s t r
+unfolding HonestRun
+honest-run s [] t well h = tt
+honest-run s (public q ∷ r) t well h = (h .0, honest-run s r ((stepped s q t) .tables) (well-kept s q t well) (rw (cells-after s q t well) (h .1)))
+honest-run s (private q ∷ r) t well h = (h .0, honest-run s r ((stepped s q t) .tables) (well-kept s q t well) (rw (cells-after s q t well) (h .1)))
+
+-- the same answers, and alike interrupts after each and at the end
+abbrev pub Same : Shape → Tables → List (Item Step) → Tables → List (Item Step) → Type 0
+Same s t r u r' = AgreeOutcomes s (outcomes s t r) (outcomes s u r') × Alike (controller s) (cellOf s (finally s t r)) (cellOf s (finally s u r'))
+
+-- a run, and from an alike table its Non-secure steps alone: they are a run too, and the Non-secure side has the same of both
+pub run-alone : (s : Shape) (t u : Tables) → wellFormed s t ≡ true → wellFormed s u ≡ true → Alike (controller s) (cellOf s t) (cellOf s u) → (r : List (Item Step)) → Run s t r
+    → Run s u (alone (controller s) (publics r)) × Same s t r u (alone (controller s) (publics r))
+unfolding HonestRun
+run-alone s t u wt wu h r k =
+    let honest = run-honest s r t wt k in
+    let x = without-private (controller s) (λ q c. NonSecureStep c q) (λ q c. PrivateStep s c q) (controller-separate s) r (cellOf s t) (cellOf s u) h honest in
+    let y = alone-honest (controller s) (λ q c. NonSecureStep c q) (λ q c. PrivateStep s c q) (controller-separate s) r (cellOf s t) (cellOf s u) h honest in
+    (honest-run s (alone (controller s) (publics r)) u wu y, (rw (run-seen s r t wt, run-seen s (alone (controller s) (publics r)) u wu) (x .0), rw (run-ended s r t wt, run-ended s (alone (controller s) (publics r)) u wu) (x .1)))
+
+-- CLAUSE 2: the private steps of a run can be deleted
+pub private-deleted : (s : Shape) (t : Tables) → wellFormed s t ≡ true → (r : List (Item Step)) → Run s t r → Run s t (alone (controller s) (publics r)) × Same s t r t (alone (controller s) (publics r))
+private-deleted s t well r k = run-alone s t t well well (alike-refl (controller s) (cellOf s t)) r k
 
 -- document 01's words give what the run theorems ask
 tables-alike : (s : Shape) (t u : Tables) → AlikeTables s t u → Alike (controller s) (cellOf s t) (cellOf s u)
