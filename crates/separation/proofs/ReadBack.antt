@@ -1,5 +1,6 @@
 -- CLAUSE 3: what the Non-secure side sets, it reads back. After a write of v to a set register (enable, pending, active) the
--- word reads: the old word, or v and the owned bits. Exactly, in every digit; and so does the clear register of the pair.
+-- word reads: the old word, or v and the owned bits; after a write to a clear register (enable, active): the old word, and not
+-- v. Exactly, in every digit.
 use mathlib.Core.Path.{_≡_, refl, sym, ap, ap₂, _∙_}
 use mathlib.Core.Bool.{Bool, true, false, cond, not, _&&_, _||_}
 use Prim.Native.Nat.{ℕ, _+_, _-_, _<_, _≤_}
@@ -26,14 +27,15 @@ use Rattle.types.specs.declared.Answer.the-variants.{Done}
 use Rattle.meaning.specs.Cell.{Cell, get, put, nonSecure}
 use Rattle.meaning.specs.Layout.{Tables, wellFormed, cellOf}
 use Rattle.meaning.specs.Registers.{digitBits, placeOf, first, count, names, writtenValue}
-use Rattle.meaning.specs.Rule.{Step, access, gated, sees, mayTouch, setting, update, shows, reaches, touched, visible, wordWritten, written, accessed, act}
+use Rattle.meaning.specs.Rule.{Step, access, gated, sees, mayTouch, setting, clearing, update, shows, reaches, touched, visible, wordWritten, written, accessed, act}
 use Rattle.meaning.specs.Step.{Outcome, Cells, wordRead, read, accessAnswer, answer, tablesAfter, stepped}
 use Rattle.meaning.specs.Sides.{owned}
 use Rattle.meaning.proofs.Cells.{gated-true, gated-false}
-use Rattle.meaning.proofs.Effects.{setter, set-shown}
+use Rattle.meaning.proofs.Effects.{setter, set-shown, enable-cleared, active-cleared}
+use Rattle.meaning.proofs.Bytes.{digit-back as bit-back}
 use Rattle.meaning.proofs.Homes.{between-in}
 use Rattle.meaning.proofs.After.{cell-after}
-use Rattle.separation.specs.ReadBack.{oldOrOwned, nonSecureWord}
+use Rattle.separation.specs.ReadBack.{oldOrOwned, oldAndNot, nonSecureWord}
 use Rattle.engine.proofs.Facts.{lengths-fit}
 use Rattle.promises.proofs.Records.{tables-well}
 use Rattle.promises.proofs.Refused.{answer-well, well-kept}
@@ -85,6 +87,58 @@ digit-back f d m c h = by (reaches NonSecure f c) refl
         ∙ (or-of-shut (eqb d 1)
         ∙ sym (ap₂ (λ (o r : Bool). digit ((eqb d 1 && o) || eqb (cond r (shows f m c) 0) 1)) (sym (setter-open f c h) ∙ e) e)))
 
+-- a law of the clear families that show the bit they clear
+abbrev pub clearer : Family → Bool
+clearer Igroupr = false
+clearer Isenabler = false
+clearer Icenabler = true
+clearer Ispendr = false
+clearer Icpendr = false
+clearer Isactiver = false
+clearer Icactiver = true
+clearer Igrpmodr = false
+clearer Icfgr = false
+
+by-clearer : (P : Family → Type 0) → P Icenabler → P Icactiver → (f : Family) → clearer f ≡ true → P f
+by-clearer P e a Igroupr h = absurd (clash h refl)
+by-clearer P e a Isenabler h = absurd (clash h refl)
+by-clearer P e a Icenabler h = e
+by-clearer P e a Ispendr h = absurd (clash h refl)
+by-clearer P e a Icpendr h = absurd (clash h refl)
+by-clearer P e a Isactiver h = absurd (clash h refl)
+by-clearer P e a Icactiver h = a
+by-clearer P e a Igrpmodr h = absurd (clash h refl)
+by-clearer P e a Icfgr h = absurd (clash h refl)
+
+clear-kept : (f : Family) (d m : ℕ) (c : Cell) → clearer f ≡ true → reaches NonSecure f (update f d m c) ≡ reaches NonSecure f c
+unfolding reaches mayTouch sees nonSecure update clearing get put
+clear-kept f d m c = by-clearer (λ g. reaches NonSecure g (update g d m c) ≡ reaches NonSecure g c) refl refl f
+
+clear-shown : (f : Family) (d m : ℕ) (c : Cell) → clearer f ≡ true → shows f m (update f d m c) ≡ digit (not (eqb d 1) && eqb (shows f m c) 1)
+unfolding shows
+clear-shown f d m c =
+    by-clearer (λ g. shows g m (update g d m c) ≡ digit (not (eqb d 1) && eqb (shows g m c) 1))
+    (enable-cleared d m c ∙ ap (λ (b : Bool). digit (not (eqb d 1) && b)) (sym (bit-back (c .enabled))))
+    (active-cleared d m c ∙ ap (λ (b : Bool). digit (not (eqb d 1) && b)) (sym (bit-back (c .active)))) f
+
+and-of-shut : (b : Bool) → 0 ≡ digit (b && eqb 0 1)
+and-of-shut true = refl
+and-of-shut false = refl
+
+pub digit-cleared : (f : Family) (d m : ℕ) (c : Cell) → clearer f ≡ true → visible NonSecure f m (touched NonSecure f d m c) ≡ digit (not (eqb d 1) && eqb (visible NonSecure f m c) 1)
+unfolding touched visible
+digit-cleared f d m c h = by (reaches NonSecure f c) refl
+  where
+    by : (b : Bool) → reaches NonSecure f c ≡ b → visible NonSecure f m (touched NonSecure f d m c) ≡ digit (not (eqb d 1) && eqb (visible NonSecure f m c) 1)
+    by true e =
+        ap (visible NonSecure f m) (gated-true (reaches NonSecure f c) (update f d m c) c e)
+        ∙ (ap (λ (b : Bool). cond b (shows f m (update f d m c)) 0) (clear-kept f d m c h ∙ e)
+        ∙ (clear-shown f d m c h ∙ sym (ap (λ (r : Bool). digit (not (eqb d 1) && eqb (cond r (shows f m c) 0) 1)) e)))
+    by false e =
+        ap (visible NonSecure f m) (gated-false (reaches NonSecure f c) (update f d m c) c e)
+        ∙ (ap (λ (b : Bool). cond b (shows f m c) 0) e
+        ∙ (and-of-shut (not (eqb d 1)) ∙ sym (ap (λ (r : Bool). digit (not (eqb d 1) && eqb (cond r (shows f m c) 0) 1)) e)))
+
 -- the places that hold a word of the family f
 pub record Holds (f : Family) (p : Place) : Type 0 where
   pub reading : (s : Shape) (side : Side) (cells : Cells) → read s side p cells ≡ wordRead side f p cells
@@ -98,17 +152,34 @@ pub extended-holds : (r : Frame) (f : Family) (n : ℕ) → Holds f (place.Exten
 unfolding read written
 extended-holds r f n = record { reading = λ s side cells. refl; writing = λ s side v m c. refl }
 
--- a whole word
-word-back : (f : Family) (p : Place) (v : ℕ) (cells : Cells) → setter f ≡ true → wordRead NonSecure f p (λ m. wordWritten NonSecure f p v m (cells m)) ≡ oldOrOwned f p v cells
-unfolding wordRead wordWritten names oldOrOwned
-word-back f p v cells h =
+-- a whole word after a write: each digit is what is seen of its interrupt after its own digit was written
+word-after : (f : Family) (p : Place) (v : ℕ) (cells : Cells)
+    → wordRead NonSecure f p (λ m. wordWritten NonSecure f p v m (cells m)) ≡ row (digitBits f) (count p) (λ x. visible NonSecure f (first p + x) (touched NonSecure f (digitAt (digitBits f) x v) (first p + x) (cells (first p + x))))
+unfolding wordRead wordWritten names
+word-after f p v cells =
     row-same (digitBits f) (count p) _ _
     (λ x l.
     let inside : names p (first p + x) ≡ true = between-in (first p) (first p + count p) (first p + x) (omega arith) (omega arith) in
     let here : (first p + x) - first p ≡ x = omega arith in
-    ap (visible NonSecure f (first p + x)) (gated-true (names p (first p + x)) _ _ inside ∙ ap (λ (k : ℕ). touched NonSecure f (digitAt (digitBits f) k v) (first p + x) (cells (first p + x))) here)
-    ∙ (digit-back f (digitAt (digitBits f) x v) (first p + x) (cells (first p + x)) h
-    ∙ ap (λ (z : ℕ). digit ((eqb (digitAt (digitBits f) x v) 1 && owned (cells (first p + x))) || eqb z 1)) (sym (digit-read NonSecure f p cells x l))))
+    ap (visible NonSecure f (first p + x)) (gated-true (names p (first p + x)) _ _ inside ∙ ap (λ (k : ℕ). touched NonSecure f (digitAt (digitBits f) k v) (first p + x) (cells (first p + x))) here))
+
+word-back : (f : Family) (p : Place) (v : ℕ) (cells : Cells) → setter f ≡ true → wordRead NonSecure f p (λ m. wordWritten NonSecure f p v m (cells m)) ≡ oldOrOwned f p v cells
+unfolding oldOrOwned
+word-back f p v cells h =
+    word-after f p v cells
+    ∙ row-same (digitBits f) (count p) _ _
+    (λ x l.
+    digit-back f (digitAt (digitBits f) x v) (first p + x) (cells (first p + x)) h
+    ∙ ap (λ (z : ℕ). digit ((eqb (digitAt (digitBits f) x v) 1 && owned (cells (first p + x))) || eqb z 1)) (sym (digit-read NonSecure f p cells x l)))
+
+word-cleared : (f : Family) (p : Place) (v : ℕ) (cells : Cells) → clearer f ≡ true → wordRead NonSecure f p (λ m. wordWritten NonSecure f p v m (cells m)) ≡ oldAndNot f p v cells
+unfolding oldAndNot
+word-cleared f p v cells h =
+    word-after f p v cells
+    ∙ row-same (digitBits f) (count p) _ _
+    (λ x l.
+    digit-cleared f (digitAt (digitBits f) x v) (first p + x) (cells (first p + x)) h
+    ∙ ap (λ (z : ℕ). digit (not (eqb (digitAt (digitBits f) x v) 1) && eqb z 1)) (sym (digit-read NonSecure f p cells x l)))
 
 after-write : (s : Shape) (r : Frame) (f : Family) (p : Place) → Holds f p → (o v : ℕ) → placeOf r 4 o ≡ At p → (m : ℕ) (c : Cell)
     → act s (nonSecureWord r Write o v) m c ≡ wordWritten NonSecure f p v m c
@@ -116,14 +187,14 @@ unfolding act writtenValue
 after-write s r f p k o v e m c =
     ap (λ (d : Decoded). accessed s (record { frame = r; side = NonSecure; way = Write; width = 4; offset = o; value = v }) d m c) e ∙ k .writing s NonSecure v m c
 
--- on the lent tables, whatever stands in them: the write, then the read
-pub read-back : (s : Shape) (t : Tables) → wellFormed s t ≡ true → (r : Frame) (f : Family) (p : Place) → Holds f p → setter f ≡ true → (o v z : ℕ) → placeOf r 4 o ≡ At p
-    → (stepped s (nonSecureWord r Read o z) ((stepped s (nonSecureWord r Write o v) t) .tables)) .answered ≡ Done (oldOrOwned f p v (cellOf s t))
+-- on the lent tables, whatever stands in them: a write, then a read, shows the word after the write
+written-read : (s : Shape) (t : Tables) → wellFormed s t ≡ true → (r : Frame) (f : Family) (p : Place) → Holds f p → (o v z : ℕ) → placeOf r 4 o ≡ At p
+    → (stepped s (nonSecureWord r Read o z) ((stepped s (nonSecureWord r Write o v) t) .tables)) .answered ≡ Done (wordRead NonSecure f p (λ m. wordWritten NonSecure f p v m (cellOf s t m)))
 unfolding answer
-read-back s t well r f p k h o v z e =
+written-read s t well r f p k o v z e =
     answer-well s (nonSecureWord r Read o z) after (well-kept s (nonSecureWord r Write o v) t well)
     ∙ (ap (λ (d : Decoded). accessAnswer s (record { frame = r; side = NonSecure; way = Read; width = 4; offset = o; value = z }) d (cellOf s after)) e
-    ∙ ap Done (k .reading s NonSecure (cellOf s after) ∙ (ap (wordRead NonSecure f p) (λ i m. cells m i) ∙ word-back f p v (cellOf s t) h)))
+    ∙ ap Done (k .reading s NonSecure (cellOf s after) ∙ ap (wordRead NonSecure f p) (λ i m. cells m i)))
   where
     after : Tables
     after = (stepped s (nonSecureWord r Write o v) t) .tables
@@ -132,3 +203,13 @@ read-back s t well r f p k h o v z e =
     cells m =
         ap (λ (u : Tables). cellOf s u m) (tables-well s (nonSecureWord r Write o v) t well)
         ∙ (cell-after s (nonSecureWord r Write o v) t (lengths-fit s t well) m ∙ after-write s r f p k o v e m (cellOf s t m))
+
+-- set enable, pending or active, then read: the old word, or v and the owned bits
+pub read-back : (s : Shape) (t : Tables) → wellFormed s t ≡ true → (r : Frame) (f : Family) (p : Place) → Holds f p → setter f ≡ true → (o v z : ℕ) → placeOf r 4 o ≡ At p
+    → (stepped s (nonSecureWord r Read o z) ((stepped s (nonSecureWord r Write o v) t) .tables)) .answered ≡ Done (oldOrOwned f p v (cellOf s t))
+read-back s t well r f p k h o v z e = written-read s t well r f p k o v z e ∙ ap Done (word-back f p v (cellOf s t) h)
+
+-- clear enable or active, then read: the old word, and not v
+pub cleared-back : (s : Shape) (t : Tables) → wellFormed s t ≡ true → (r : Frame) (f : Family) (p : Place) → Holds f p → clearer f ≡ true → (o v z : ℕ) → placeOf r 4 o ≡ At p
+    → (stepped s (nonSecureWord r Read o z) ((stepped s (nonSecureWord r Write o v) t) .tables)) .answered ≡ Done (oldAndNot f p v (cellOf s t))
+cleared-back s t well r f p k h o v z e = written-read s t well r f p k o v z e ∙ ap Done (word-cleared f p v (cellOf s t) h)

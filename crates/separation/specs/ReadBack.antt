@@ -1,5 +1,5 @@
 -- What the Non-secure side reads back of what it wrote.
-use mathlib.Core.Bool.{Bool, _&&_, _||_}
+use mathlib.Core.Bool.{Bool, not, _&&_, _||_}
 use Prim.Native.Nat.{ℕ, _+_}
 use lib.Dec.{eqb}
 use Rattle.lists.specs.Word.{digit, digitAt, row}
@@ -23,3 +23,9 @@ unfoldable pub oldOrOwned : Family → Place → ℕ → Cells → ℕ
 oldOrOwned f p v cells =
     row (digitBits f) (count p)
     (λ x. digit ((eqb (digitAt (digitBits f) x v) 1 && owned (cells (first p + x))) || eqb (digitAt (digitBits f) x (wordRead NonSecure f p cells)) 1))
+
+-- the old word, and not v
+unfoldable pub oldAndNot : Family → Place → ℕ → Cells → ℕ
+oldAndNot f p v cells =
+    row (digitBits f) (count p)
+    (λ x. digit (not (eqb (digitAt (digitBits f) x v) 1) && eqb (digitAt (digitBits f) x (wordRead NonSecure f p cells)) 1))
