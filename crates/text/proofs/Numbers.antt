@@ -1,0 +1,59 @@
+-- Numbers in text, digit by digit; what is too large, or too long, is none.
+use mathlib.Core.Path.{_≡_, refl, sym, ap, _∙_}
+use mathlib.Core.Bool.{Bool, true, false, _&&_, _||_}
+use mathlib.Core.List.{List, [], _∷_, _++_}
+use Prim.Native.Nat.{ℕ, zero, suc, _+_, _*_, _-_, _/_, _%_, _^_, _<_, _≤_, zero-le}
+use native.Mathlib.Nat.{le-of-suc-le-suc, not-suc-le-zero}
+use native.Mathlib.Numerals.{add-one, sub-one}
+use native.Mathlib.Omega.{arith}
+use lib.Dec.{eqb, ltb, leb}
+use lib.ListN.{length, getD, drop, length-append}
+use lib.Seq.{drop-cons, drop-length}
+use borrow.Author.Tests.{lt-leb, lt-ltb, le-ltb}
+use Rattle.text.specs.declared.Number.{Number}
+use Rattle.text.specs.declared.Number.the-variants.{Is, Bad}
+use Rattle.text.specs.Number.{choose, isDigit, limited, digitsAfter, unless, digitsOf, decimal}
+
+pub digits-step : (n : ℕ) (t : List ℕ) (i : ℕ) → i < length t
+    → digitsAfter n (drop i t) ≡ choose (isDigit (getD t i 0)) (digitsAfter (n * 10 + (getD t i 0 - 48)) (drop (i + 1) t)) Bad
+unfolding digitsAfter
+digits-step n t i h = rw (add-one, drop-cons t i 0 h)
+
+pub digits-end : (n : ℕ) (t : List ℕ) (i : ℕ) → i ≡ length t → digitsAfter n (drop i t) ≡ limited 4294967295 n
+unfolding digitsAfter
+digits-end n t i h = rw (h, drop-length)
+
+chosen : (b : Bool) {x y : Number} → x ≡ y → choose b x y ≡ y
+chosen true h = h
+chosen false h = refl
+
+-- past the limit no further digit leads back
+pub digits-big : (n : ℕ) (t : List ℕ) → 4294967295 < n → digitsAfter n t ≡ Bad
+unfolding digitsAfter limited
+digits-big n [] h = rw (lt-leb n 4294967295 h)
+digits-big n (b ∷ t) h = chosen (isDigit b) (digits-big (n * 10 + (b - 48)) t (omega arith))
+
+length-unless : (b : Bool) (t : List ℕ) (k : ℕ) → length t ≤ k → length (unless b t) ≤ k
+length-unless true t k h = zero-le
+length-unless false t k h = h
+
+pub length-digits : (k n : ℕ) → length (digitsOf k n) ≤ k
+unfolding digitsOf
+length-digits zero n = zero-le
+length-digits (suc k) n =
+    let h = length-unless (ltb n 10) (digitsOf k (n / 10)) k (length-digits k (n / 10)) in
+    simp length-append (omega arith)
+
+pub length-decimal : (n : ℕ) → length (decimal n) ≤ 20
+unfolding decimal
+length-decimal n = length-digits 20 n
+
+pub digits-one : (k n : ℕ) → (k ≡ 0 → ⊥) → n < 10 → digitsOf k n ≡ (48 + n % 10) ∷ []
+unfolding digitsOf
+digits-one zero n h l = absurd (h refl)
+digits-one (suc k) n h l = rw (lt-ltb n 10 l)
+
+pub digits-more : (k n : ℕ) → (k ≡ 0 → ⊥) → 10 ≤ n → digitsOf k n ≡ digitsOf (k - 1) (n / 10) ++ ((48 + n % 10) ∷ [])
+unfolding digitsOf
+digits-more zero n h l = absurd (h refl)
+digits-more (suc k) n h l = rw (le-ltb n 10 l, sub-one)
