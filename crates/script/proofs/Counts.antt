@@ -14,7 +14,7 @@ use Rattle.keys.specs.declared.Key.{Key}
 use Rattle.keys.specs.declared.Key.the-variants.{Lines, Espi, Eppi, Mbis, Op, Frame, Sec, Width, Offset, Value}
 use Rattle.keys.specs.Keys.{fieldOf}
 use Rattle.script.specs.declared.Progress.{Progress}
-use Rattle.script.specs.Run.{Run, either, lineNumber, badLine, answered, completed, kept, goodLine, judged, lineRead}
+use Rattle.script.specs.Run.{Run, either, lineNumber, stopped, badLine, counted, answered, completed, keeping, kept, goodLine, judged, lineRead}
 use Rattle.script.specs.Replay.{start, startProgress, linesRead}
 
 abbrev run : Key → List ℕ → ℕ → Bool → Tables → List ℕ → Run
@@ -22,7 +22,7 @@ run k vs n o t s = record { at = record { key = k; values = vs; steps = n; over 
 
 good-counts : (k : Key) (vs : List ℕ) (n : ℕ) (o : Bool) (t : Tables) (s : List ℕ) (v : ℕ)
     → lineNumber (goodLine (run k vs n o t s) v .at) ≡ suc (lineNumber (run k vs n o t s .at))
-unfolding goodLine kept completed answered lineNumber
+unfolding goodLine kept keeping completed answered counted lineNumber
 good-counts Lines vs n o t s v = omega arith
 good-counts Espi vs n o t s v = omega arith
 good-counts Eppi vs n o t s v = omega arith
@@ -35,7 +35,7 @@ good-counts Offset vs n o t s v = omega arith
 good-counts Value vs n o t s v = omega arith
 
 judged-counts : (r : Run) (n : Number) → judged r n .at .over ≡ false → lineNumber (judged r n .at) ≡ suc (lineNumber (r .at))
-unfolding badLine
+unfolding badLine stopped
 judged-counts r (Is v) h = good-counts (r .at .key) (r .at .values) (r .at .steps) (r .at .over) (r .tables) (r .said) v
 judged-counts r Bad h = absurd (true≢false h)
 
@@ -75,6 +75,6 @@ lines-count r (t ∷ ts) h =
     omega arith
 
 -- after n good lines the next line's number is n + 1
-pub counted : (ts : List (List ℕ)) → linesRead start ts .at .over ≡ false → lineNumber (linesRead start ts .at) ≡ length ts + 1
+pub lines-counted : (ts : List (List ℕ)) → linesRead start ts .at .over ≡ false → lineNumber (linesRead start ts .at) ≡ length ts + 1
 unfolding start startProgress lineNumber
-counted ts h = lines-count start ts h
+lines-counted ts h = lines-count start ts h

@@ -2,3 +2,4 @@ pub mod Prefixes
 pub mod Pieces
 pub mod Lines
 pub mod Counts
+pub mod Cases

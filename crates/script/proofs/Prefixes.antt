@@ -53,7 +53,7 @@ line-behind t r l =
     either-behind (r .at .over) t r (judged r n) refl (judged-behind t r n)
 
 abbrev pub later : List ℕ → Live → Live
-later t l = record { run = behind t (l .run); line = l .line }
+later t l = record { run = behind t (l .run); line = l .line; most = l .most }
 
 when-later : (b : Bool) (t : List ℕ) (l m : Live) {j k : Live} → j ≡ later t l → k ≡ later t m → when b j k ≡ later t (when b l m)
 when-later true t l m h k = h
@@ -62,7 +62,7 @@ when-later false t l m h k = k
 pub byte-later : (t : List ℕ) (l : Live) (b : ℕ) → byteRead (later t l) b ≡ later t (byteRead l b)
 unfolding byteRead
 byte-later t l b =
-    when-later (eqb b 10) t (record { run = lineRead (l .run) (l .line); line = [] }) (record { run = l .run; line = pushed (l .line) b }) (ap (λ (r : Run). record { run = r; line = [] }) (line-behind t (l .run) (l .line))) refl
+    when-later (eqb b 10) t (record { run = lineRead (l .run) (l .line); line = []; most = l .most }) (record { run = l .run; line = pushed (l .most) (l .line) b; most = l .most }) (ap (λ (r : Run). record { run = r; line = []; most = l .most }) (line-behind t (l .run) (l .line))) refl
 
 pub fed-later : (t : List ℕ) (l : Live) (bs : List ℕ) → fed (later t l) bs ≡ later t (fed l bs)
 unfolding fed
@@ -77,7 +77,7 @@ closed-later t l = append-assoc t (l .run .said) (ending (l .run .at) (l .line))
 pub live-quiet : (l : Live) → later (l .run .said) (quiet l) ≡ l
 unfolding quiet
 live-quiet l =
-    ap (λ (s : List ℕ). record { run = record { at = l .run .at; tables = l .run .tables; said = s }; line = l .line })
+    ap (λ (s : List ℕ). record { run = record { at = l .run .at; tables = l .run .tables; said = s }; line = l .line; most = l .most })
     (append-nil (l .run .said))
 
 pub closed-quiet : (l : Live) (bs : List ℕ) → closed (fed l bs) ≡ l .run .said ++ closed (fed (quiet l) bs)

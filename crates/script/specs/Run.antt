@@ -37,14 +37,26 @@ either true r q = r
 either false r q = q
 
 -- The values, by rank: the shape's numbers, and a step's words and numbers.
+abbrev pub frame-by : Bool → Frame
+frame-by true = Dist
+frame-by false = Redist
+
+abbrev pub side-by : Bool → Side
+side-by true = Secure
+side-by false = NonSecure
+
+abbrev pub way-by : Bool → Way
+way-by true = Read
+way-by false = Write
+
 abbrev pub frameOf : ℕ → Frame
-frameOf n = elim (eqb n 0) [ true ↦ Dist | false ↦ Redist ]
+frameOf n = frame-by (eqb n 0)
 
 abbrev pub sideOf : ℕ → Side
-sideOf n = elim (eqb n 0) [ true ↦ Secure | false ↦ NonSecure ]
+sideOf n = side-by (eqb n 0)
 
 abbrev pub wayOf : ℕ → Way
-wayOf n = elim (eqb n 0) [ true ↦ Read | false ↦ Write ]
+wayOf n = way-by (eqb n 0)
 
 unfoldable pub shapeOf : List ℕ → Shape
 shapeOf vs = record { lines = getD vs 0 0; espi = getD vs 1 0; eppi = getD vs 2 0; mbis = eqb (getD vs 3 0) 1 }
@@ -67,40 +79,35 @@ lineNumber p = rank (p .key) + 6 * p .steps + 1
 unfoldable pub badText : Progress → List ℕ
 badText p = numbered (bytes "bad=") (lineNumber p)
 
+unfoldable pub stopped : Progress → Progress
+stopped p = record { key = p .key; values = p .values; steps = p .steps; over = true }
+
 -- at the first bad line: its number, and nothing after it
 unfoldable pub badLine : Run → Run
-badLine r =
-    record {
-      at = record { key = r .at .key; values = r .at .values; steps = r .at .steps; over = true };
-      tables = r .tables;
-      said = r .said ++ badText (r .at);
-    }
+badLine r = record { at = stopped (r .at); tables = r .tables; said = r .said ++ badText (r .at) }
 
 -- for each step step=, status= (0 or the refusal), value=
 unfoldable pub stepText : ℕ → Answer → List ℕ
 stepText n a =
     numbered (bytes "step=") n ++ (numbered (bytes "status=") (statusOf a) ++ numbered (bytes "value=") (valueOf a))
 
+unfoldable pub counted : Progress → Progress
+counted p = record { key = p .key; values = p .values; steps = p .steps + 1; over = p .over }
+
 unfoldable pub answered : Run → Outcome → Run
 answered r o =
-    record {
-      at = record { key = r .at .key; values = r .at .values; steps = r .at .steps + 1; over = r .at .over };
-      tables = o .tables;
-      said = r .said ++ stepText (r .at .steps + 1) (o .answered);
-    }
+    record { at = counted (r .at); tables = o .tables; said = r .said ++ stepText (r .at .steps + 1) (o .answered) }
 
 -- a whole step: the machine's answer, and the tables that it leaves
 unfoldable pub completed : Run → Run
 completed r = answered r (stepped (shapeOf (r .at .values)) (access (requestOf (r .at .values))) (r .tables))
 
 -- a good line: its value is kept, and the next key's turn comes
+unfoldable pub keeping : Progress → ℕ → Progress
+keeping p v = record { key = after (p .key); values = set (p .values) (rank (p .key)) v; steps = p .steps; over = p .over }
+
 unfoldable pub kept : Run → ℕ → Run
-kept r v =
-    record {
-      at = record { key = after (r .at .key); values = set (r .at .values) (rank (r .at .key)) v; steps = r .at .steps; over = r .at .over };
-      tables = r .tables;
-      said = r .said;
-    }
+kept r v = record { at = keeping (r .at) v; tables = r .tables; said = r .said }
 
 -- value= is a step's last line
 abbrev pub isLast : Key → Bool

@@ -7,10 +7,11 @@ use lib.ListN.{length, take}
 use Rattle.script.specs.Run.{Run, lineRead}
 use Rattle.script.specs.Replay.{start, finished}
 
--- A replay in the middle of a line: what was done up to the last line end, and the bytes since then.
+-- A replay in the middle of a line: what was done up to the last line end, and the bytes since then, of which `most` are kept.
 pub record Live : Type 0 where
   pub run : Run
   pub line : List ℕ
+  pub most : ℕ
 
 abbrev pub when : Bool → Live → Live → Live
 when true l m = l
@@ -21,19 +22,20 @@ lengthened true t b = t ++ (b ∷ [])
 lengthened false t b = t
 
 -- A good line has 17 bytes at most, so that the first 18 of a line are enough to judge it.
-unfoldable pub pushed : List ℕ → ℕ → List ℕ
-pushed t b = lengthened (ltb (length t) 18) t b
+unfoldable pub pushed : ℕ → List ℕ → ℕ → List ℕ
+pushed most t b = lengthened (ltb (length t) most) t b
 
 unfoldable pub byteRead : Live → ℕ → Live
 byteRead l b =
-    when (eqb b 10) (record { run = lineRead (l .run) (l .line); line = [] }) (record { run = l .run; line = pushed (l .line) b })
+    when (eqb b 10) (record { run = lineRead (l .run) (l .line); line = []; most = l .most })
+    (record { run = l .run; line = pushed (l .most) (l .line) b; most = l .most })
 
 unfoldable pub fed : Live → List ℕ → Live
 fed l [] = l
 fed l (b ∷ bs) = fed (byteRead l b) bs
 
-unfoldable pub startLive : Live
-startLive = record { run = start; line = [] }
+unfoldable pub startLive : ℕ → Live
+startLive most = record { run = start; line = []; most = most }
 
 unfoldable pub closed : Live → List ℕ
 closed l = finished (l .run) (l .line)
@@ -57,7 +59,7 @@ within size l (b ∷ bs) = goOn (hasRoom size l) (within size (byteRead l b) bs)
 
 -- l with nothing written yet: what was written before has been handed on
 unfoldable pub quiet : Live → Live
-quiet l = record { run = record { at = l .run .at; tables = l .run .tables; said = [] }; line = l .line }
+quiet l = record { run = record { at = l .run .at; tables = l .run .tables; said = [] }; line = l .line; most = l .most }
 
 -- A replay whose input comes in pieces: what each piece adds to the output, and at the end what ends it.
 unfoldable pub inPieces : Live → List (List ℕ) → List ℕ

@@ -12,7 +12,7 @@ use lib.Seq.{drop-cons, drop-length}
 use borrow.Author.Tests.{lt-leb, lt-ltb, le-ltb, leb-true, eqb-false, ne-eqb}
 use Rattle.text.specs.declared.Number.{Number}
 use Rattle.text.specs.declared.Number.the-variants.{Is, Bad}
-use Rattle.text.specs.Number.{choose, isDigit, limited, digitsAfter, unless, digitsOf, decimal, leadingZero, numberIn}
+use Rattle.text.specs.Number.{choose, isDigit, limited, digitsAfter, unless, digitsOf, decimal, numbered, leadingZero, numberIn}
 
 pub digits-step : (n : ℕ) (t : List ℕ) (i : ℕ) → i < length t
     → digitsAfter n (drop i t) ≡ choose (isDigit (getD t i 0)) (digitsAfter (n * 10 + (getD t i 0 - 48)) (drop (i + 1) t)) Bad
@@ -96,3 +96,7 @@ number-long (b ∷ t) h = by (eqb b 48) refl
     by : (x : Bool) → eqb b 48 ≡ x → numberIn (b ∷ t) ≡ Bad
     by true e = rw (ne-eqb (suc (length t)) 0 (omega arith), lt-ltb 1 (suc (length t)) (omega arith), e)
     by false e = rw (ne-eqb (suc (length t)) 0 (omega arith), lt-ltb 1 (suc (length t)) (omega arith), e) (long-from b t e (omega arith))
+
+pub length-numbered : (key : List ℕ) (n : ℕ) → length (numbered key n) ≤ length key + 21
+unfolding numbered
+length-numbered key n = let h = length-decimal n in simp length-append (omega arith)
