@@ -14,9 +14,11 @@ use Rattle.types.specs.declared.Frame.{Frame}
 use Rattle.types.specs.declared.Frame.the-variants.{Dist, Redist}
 use Rattle.types.specs.declared.Shape.{Shape}
 use Rattle.meaning.specs.Cell.{Cell, decode, encode}
-use Rattle.meaning.specs.Layout.{Tables, recordsOf, presenceOf, lengthsFit, shapeFits, wellFormed, inRange, Home, slot, nowhere, homeOf, intidOf, presentAt, byteAt, implemented, cellOf}
+use Rattle.types.specs.declared.Home.{Home}
+use Rattle.types.specs.declared.Home.the-variants.{Slot, Nowhere}
+use Rattle.meaning.specs.Layout.{Tables, recordsOf, presenceOf, lengthsFit, shapeFits, wellFormed, inRange, homeOf, intidOf, presentAt, byteAt, implemented, cellOf}
 use Rattle.meaning.specs.Rule.{Step, access, wire, activate, deactivate, reset, act}
-use Rattle.meaning.specs.Step.{recordsAfter, tablesAfter}
+use Rattle.meaning.specs.Step.{ruled, recordsAfter, tablesAfter}
 use Rattle.meaning.specs.Sides.{isReset}
 use Rattle.meaning.proofs.Bytes.{decode-encode}
 use Rattle.meaning.proofs.Rules.{missing-left}
@@ -38,9 +40,9 @@ unfolding implemented tablesAfter
 implemented-after s q t m = ap (λ (b : Bool). inRange s m && b) (same (homeOf m))
   where
     same : (h : Home) → presentAt (tablesAfter s q t) (m % 32) h ≡ presentAt t (m % 32) h
-    same (slot Dist k w) = refl
-    same (slot Redist k w) = refl
-    same nowhere = refl
+    same (Slot Dist k w) = refl
+    same (Slot Redist k w) = refl
+    same Nowhere = refl
 
 records-after : (s : Shape) (q : Step) (t : Tables) (r : Frame) → recordsOf r (tablesAfter s q t) ≡ recordsAfter s q t r
 unfolding tablesAfter
@@ -50,7 +52,7 @@ records-after s q t Redist = refl
 -- at a slot: the byte after is the rule's
 slot-after : (s : Shape) (q : Step) (t : Tables) → lengthsFit t ≡ true → (m : ℕ) (r : Frame) (k : ℕ) → Kept m r k
     → getD (recordsOf r (tablesAfter s q t)) k 0 ≡ encode (act s q m (decode (implemented s t m) (getD (recordsOf r t) k 0)))
-unfolding recordsAfter
+unfolding recordsAfter ruled
 slot-after s q t fit m r k kept =
     ap (λ (xs : List ℕ). getD xs k 0) (records-after s q t r)
     ∙ (at-mapFrom (λ j byte. encode (act s q (intidOf r j) (decode (implemented s t (intidOf r j)) byte))) (recordsOf r t) k (rw (records-length t fit r) (kept .inside))
@@ -65,7 +67,7 @@ zero-left s (activate side k) m = missing-left s (activate side k) m (decode fal
 zero-left s (deactivate side k) m = missing-left s (deactivate side k) m (decode false 0) refl refl
 zero-left s reset m = refl
 
-missing-nowhere : (s : Shape) (t : Tables) (m : ℕ) → homeOf m ≡ nowhere → implemented s t m ≡ false
+missing-nowhere : (s : Shape) (t : Tables) (m : ℕ) → homeOf m ≡ Nowhere → implemented s t m ≡ false
 unfolding implemented
 missing-nowhere s t m e = ap (λ (h : Home). inRange s m && presentAt t (m % 32) h) e ∙ and-false (inRange s m)
 
@@ -81,7 +83,7 @@ unfolding cellOf
 cell-after s q t fit m = ap (λ (i : Bool). decode i (byteAt (tablesAfter s q t) (homeOf m))) (implemented-after s q t m) ∙ by (homeOf m) refl
   where
     by : (h : Home) → homeOf m ≡ h → decode (implemented s t m) (byteAt (tablesAfter s q t) h) ≡ act s q m (decode (implemented s t m) (byteAt t h))
-    by (slot r k w) e =
+    by (Slot r k w) e =
         ap (λ (n : ℕ). decode (implemented s t m) n) (slot-after s q t fit m r k (home-kept m r k w e))
         ∙ back-after s q m (implemented s t m) (getD (recordsOf r t) k 0)
-    by nowhere e = rw (missing-nowhere s t m e) (sym (zero-left s q m))
+    by Nowhere e = rw (missing-nowhere s t m e) (sym (zero-left s q m))

@@ -7,3 +7,4 @@ pub mod After
 pub mod Quiet
 pub mod Cases
 pub mod Effects
+pub mod Families

@@ -92,7 +92,7 @@ module _ (s : Shape) (side : Side) (m : ℕ) (c : Cell) (shut : (c .implemented 
       gated-shut (c .implemented && maySend side g c) (sent g m c) c
       (λ t. clash (open-gate side c (maySend side g c) (send-sees side g c) t) shut)
 
-  message-left : (g : message.Message) (v : ℕ) → messageWritten s side g v m c ≡ c
+  pub message-left : (g : message.Message) (v : ℕ) → messageWritten s side g v m c ≡ c
   unfolding messageWritten
   message-left g v = gated-both (λ x. x) (addresses s v m) (delivered side g m c) c (delivered-left g) refl
 

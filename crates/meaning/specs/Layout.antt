@@ -7,6 +7,8 @@ use lib.ListN.{length, getD}
 use Rattle.lists.specs.Word.{bitAt}
 use Rattle.types.specs.declared.Frame.{Frame}
 use Rattle.types.specs.declared.Frame.the-variants.{Dist, Redist}
+use Rattle.types.specs.declared.Home.{Home}
+use Rattle.types.specs.declared.Home.the-variants.{Slot, Nowhere}
 use Rattle.types.specs.declared.Shape.{Shape}
 use Rattle.meaning.specs.Cell.{Cell, decode}
 
@@ -16,6 +18,9 @@ pub record Tables : Type 0 where
   pub redist : List ℕ
   pub distPresence : List ℕ
   pub redistPresence : List ℕ
+
+abbrev pub lent : List ℕ → List ℕ → List ℕ → List ℕ → Tables
+lent d r dp rp = record { dist = d; redist = r; distPresence = dp; redistPresence = rp }
 
 abbrev pub recordsOf : Frame → Tables → List ℕ
 recordsOf Dist t = t .dist
@@ -49,20 +54,16 @@ inRange s m =
     || (between 1056 (1056 + 32 * s .eppi) m || between 4096 (4096 + 32 * s .espi) m))
 
 -- Where an interrupt is kept: its table, its slot there, and its presence word; or nowhere.
-pub data Home : Type 0 where
-  slot : Frame → ℕ → ℕ → Home
-  nowhere : Home
-
 abbrev pub orElse : Bool → Home → Home → Home
 orElse true h k = h
 orElse false h k = k
 
 unfoldable pub homeOf : ℕ → Home
 homeOf m =
-    orElse (between 0 32 m) (slot Redist m 0)
-    (orElse (between 32 1020 m) (slot Dist (m - 32) (m / 32 - 1))
-    (orElse (between 1056 1120 m) (slot Redist (32 + (m - 1056)) ((m - 1024) / 32))
-    (orElse (between 4096 5120 m) (slot Dist (988 + (m - 4096)) (31 + (m - 4096) / 32)) nowhere)))
+    orElse (between 0 32 m) (Slot Redist m 0)
+    (orElse (between 32 1020 m) (Slot Dist (m - 32) (m / 32 - 1))
+    (orElse (between 1056 1120 m) (Slot Redist (32 + (m - 1056)) ((m - 1024) / 32))
+    (orElse (between 4096 5120 m) (Slot Dist (988 + (m - 4096)) (31 + (m - 4096) / 32)) Nowhere)))
 
 -- the way back: the INTID that a slot of a table keeps
 unfoldable pub intidOf : Frame → ℕ → ℕ
@@ -71,20 +72,20 @@ intidOf Redist k = cond (ltb k 32) k (1056 + (k - 32))
 
 -- an SPI or an extended SPI: what the Distributor keeps
 abbrev pub inDist : Home → Bool
-inDist (slot Dist k w) = true
-inDist (slot Redist k w) = false
-inDist nowhere = false
+inDist (Slot Dist k w) = true
+inDist (Slot Redist k w) = false
+inDist Nowhere = false
 
 unfoldable pub spi : ℕ → Bool
 spi m = inDist (homeOf m)
 
 abbrev pub presentAt : Tables → ℕ → Home → Bool
-presentAt t x (slot f k w) = bitAt (getD (presenceOf f t) w 0) x
-presentAt t x nowhere = false
+presentAt t x (Slot f k w) = bitAt (getD (presenceOf f t) w 0) x
+presentAt t x Nowhere = false
 
 abbrev pub byteAt : Tables → Home → ℕ
-byteAt t (slot f k w) = getD (recordsOf f t) k 0
-byteAt t nowhere = 0
+byteAt t (Slot f k w) = getD (recordsOf f t) k 0
+byteAt t Nowhere = 0
 
 -- An interrupt is implemented when it is in range and its presence bit is 1.
 unfoldable pub implemented : Shape → Tables → ℕ → Bool

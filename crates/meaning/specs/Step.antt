@@ -57,9 +57,13 @@ answer s (activate side m) cells = activateAnswer side m (cells m)
 answer s (deactivate side m) cells = deactivateAnswer side m (cells m)
 answer s reset cells = Done 0
 
--- a table of records after a step: the rule at each of its slots
+-- a table of records after a rule was followed at each of its slots
+unfoldable pub ruled : Shape → Tables → (ℕ → Cell → Cell) → Frame → List ℕ
+ruled s t rule r = mapFrom 0 (λ k byte. encode (rule (intidOf r k) (decode (implemented s t (intidOf r k)) byte))) (recordsOf r t)
+
+-- a table of records after a step
 unfoldable pub recordsAfter : Shape → Step → Tables → Frame → List ℕ
-recordsAfter s q t r = mapFrom 0 (λ k byte. encode (act s q (intidOf r k) (decode (implemented s t (intidOf r k)) byte))) (recordsOf r t)
+recordsAfter s q t r = ruled s t (act s q) r
 
 -- The presence words are never written.
 unfoldable pub tablesAfter : Shape → Step → Tables → Tables

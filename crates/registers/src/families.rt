@@ -4,8 +4,9 @@
 //   WORDS          how many words the Distributor has, and how many extended ones
 //   REDIST_WORDS   how many words the Redistributor has
 //   DIGIT_BITS     how many bits of a word an interrupt has
+//   PER_WORD       how many interrupts a word has
 ghost use mathlib.Core.Path.{_≡_};
-ghost use Rattle.meaning.specs.Registers.{base, extendedBase, distWords, redistWords, digitBits};
+ghost use Rattle.meaning.specs.Registers.{base, extendedBase, distWords, redistWords, digitBits, perWord};
 use types::Family;
 
 // The group bit of each interrupt.
@@ -21,6 +22,8 @@ impl Igroupr {
     pub const REDIST_WORDS: u32 = 3;
 
     pub const DIGIT_BITS: u32 = 1;
+
+    pub const PER_WORD: u32 = 32;
 }
 
 // Sets enables.
@@ -36,6 +39,8 @@ impl Isenabler {
     pub const REDIST_WORDS: u32 = 3;
 
     pub const DIGIT_BITS: u32 = 1;
+
+    pub const PER_WORD: u32 = 32;
 }
 
 // Clears enables.
@@ -51,6 +56,8 @@ impl Icenabler {
     pub const REDIST_WORDS: u32 = 3;
 
     pub const DIGIT_BITS: u32 = 1;
+
+    pub const PER_WORD: u32 = 32;
 }
 
 // Sets pending.
@@ -66,6 +73,8 @@ impl Ispendr {
     pub const REDIST_WORDS: u32 = 3;
 
     pub const DIGIT_BITS: u32 = 1;
+
+    pub const PER_WORD: u32 = 32;
 }
 
 // Clears pending.
@@ -81,6 +90,8 @@ impl Icpendr {
     pub const REDIST_WORDS: u32 = 3;
 
     pub const DIGIT_BITS: u32 = 1;
+
+    pub const PER_WORD: u32 = 32;
 }
 
 // Sets active.
@@ -96,6 +107,8 @@ impl Isactiver {
     pub const REDIST_WORDS: u32 = 3;
 
     pub const DIGIT_BITS: u32 = 1;
+
+    pub const PER_WORD: u32 = 32;
 }
 
 // Clears active.
@@ -111,6 +124,8 @@ impl Icactiver {
     pub const REDIST_WORDS: u32 = 3;
 
     pub const DIGIT_BITS: u32 = 1;
+
+    pub const PER_WORD: u32 = 32;
 }
 
 // The group modifier bit of each interrupt.
@@ -126,6 +141,8 @@ impl Igrpmodr {
     pub const REDIST_WORDS: u32 = 3;
 
     pub const DIGIT_BITS: u32 = 1;
+
+    pub const PER_WORD: u32 = 32;
 }
 
 // The trigger of each interrupt, two bits each.
@@ -141,9 +158,11 @@ impl Icfgr {
     pub const REDIST_WORDS: u32 = 6;
 
     pub const DIGIT_BITS: u32 = 2;
+
+    pub const PER_WORD: u32 = 16;
 }
 
-// These five tie the constants to the meaning.
+// These tie the constants to the meaning.
 pub fn base(family: Family) -> u32
     ensures { λ r. ⌜ r ≡ base family ⌝ }
 {
@@ -221,5 +240,21 @@ pub fn digit_bits(family: Family) -> u32
         Family::Icactiver => Icactiver::DIGIT_BITS,
         Family::Igrpmodr => Igrpmodr::DIGIT_BITS,
         Family::Icfgr => Icfgr::DIGIT_BITS,
+    }
+}
+
+pub fn per_word(family: Family) -> u32
+    ensures { λ r. ⌜ r ≡ perWord family ⌝ }
+{
+    match family {
+        Family::Igroupr => Igroupr::PER_WORD,
+        Family::Isenabler => Isenabler::PER_WORD,
+        Family::Icenabler => Icenabler::PER_WORD,
+        Family::Ispendr => Ispendr::PER_WORD,
+        Family::Icpendr => Icpendr::PER_WORD,
+        Family::Isactiver => Isactiver::PER_WORD,
+        Family::Icactiver => Icactiver::PER_WORD,
+        Family::Igrpmodr => Igrpmodr::PER_WORD,
+        Family::Icfgr => Icfgr::PER_WORD,
     }
 }

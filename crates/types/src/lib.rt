@@ -93,6 +93,12 @@ pub enum Bit {
     Modifier,
 }
 
+// Where an interrupt is kept: its table (named by its frame), its slot there and its presence word; or nowhere.
+pub enum Home {
+    Slot(Frame, u32, u32),
+    Nowhere,
+}
+
 // The register families that hold a digit for each interrupt.
 pub enum Family {
     Igroupr,

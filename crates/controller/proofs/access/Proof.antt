@@ -1,0 +1,103 @@
+use mathlib.Core.Path.{sym, ap, _∙_}
+use denote.Ref.{now}
+use borrow.Author.Tests.{not-true, not-false}
+use Rattle.meaning.specs.Layout.{lent}
+use Rattle.meaning.specs.Rule.{access}
+use Rattle.layout.proofs.Valid.{valid-place}
+use Rattle.controller.proofs.Outcomes.{ill, well, access-refused, access-read, access-write}
+use borrow.Author.Needs.{needs}
+use Rattle.controller.proofs.access.Statement.{statement}
+use Rattle.controller.proofs.access.Tie as tie
+
+well-formed-requires : tie.Need-well-formed-requires
+well-formed-requires c κs = search needs
+
+same-length : tie.Need-same-length
+same-length c = search needs
+
+same-length-2 : tie.Need-same-length-2
+same-length-2 c = search needs
+
+returns : tie.Need-returns
+returns c = ill (c .before .before .before .before .before .before .before .before .args .shape) (access (c .before .before .before .before .before .before .before .before .args .request)) (lent (now (c .before .before .before .before .before .before .before .before .args .dist)) (now (c .before .before .before .before .before .before .before .before .args .redist)) (now (c .before .before .before .before .before .before .before .before .args .dist-presence)) (now (c .before .before .before .before .before .before .before .before .args .redist-presence))) (sym (c .before .well-formed .ensures) ∙ not-true (c .before .well-formed .result) (c .if1 .taken))
+
+place-of-requires : tie.Need-place-of-requires
+place-of-requires c κs = search needs
+
+enum-known-found : tie.Need-enum-known-found
+enum-known-found c = search needs
+
+enum-told : tie.Need-enum-told
+enum-told c = search needs
+
+refused-requires : tie.Need-refused-requires
+refused-requires c κs = search needs
+
+same-length-3 : tie.Need-same-length-3
+same-length-3 c = search needs
+
+same-length-4 : tie.Need-same-length-4
+same-length-4 c = search needs
+
+returns-2 : tie.Need-returns-2
+returns-2 c = rw (c .refused .ensures _ (c .before .enum-told .given .1)) (well (c .before .before .before .before .before .before .before .before .before .before .before .before .args .shape) (access (c .before .before .before .before .before .before .before .before .before .before .before .before .args .request)) (lent (now (c .before .before .before .before .before .before .before .before .before .before .before .before .args .dist)) (now (c .before .before .before .before .before .before .before .before .before .before .before .before .args .redist)) (now (c .before .before .before .before .before .before .before .before .before .before .before .before .args .dist-presence)) (now (c .before .before .before .before .before .before .before .before .before .before .before .before .args .redist-presence))) (sym (c .before .before .before .before .before .well-formed .ensures) ∙ not-false (c .before .before .before .before .before .well-formed .result) (c .before .before .before .before .if1 .left)) _ _ _ (access-refused (c .before .before .before .before .before .before .before .before .before .before .before .before .args .shape) (lent (now (c .before .before .before .before .before .before .before .before .before .before .before .before .args .dist)) (now (c .before .before .before .before .before .before .before .before .before .before .before .before .args .redist)) (now (c .before .before .before .before .before .before .before .before .before .before .before .before .args .dist-presence)) (now (c .before .before .before .before .before .before .before .before .before .before .before .before .args .redist-presence))) (λ k. c .before .before .before .before .before .before .before .before .before .before .before .slice-known .given k .fits) (λ k. c .before .before .before .before .before .before .before .before .before .before .slice-known2 .given k .fits) (c .before .before .before .before .before .before .before .before .before .before .before .before .args .request) _ (sym (c .before .before .before .place-of .ensures) ∙ c .before .enum-told .given .1)))
+
+enum-told-2 : tie.Need-enum-told-2
+enum-told-2 c = search needs
+
+read-requires : tie.Need-read-requires
+read-requires c κs = ((sym (c .before .before .before .before .before .before .before .before .before .well-formed .ensures) ∙ not-false (c .before .before .before .before .before .before .before .before .before .well-formed .result) (c .before .before .before .before .before .before .before .before .if1 .left)), valid-place _ _ _ _ (sym (c .before .before .before .before .before .before .before .place-of .ensures) ∙ c .before .before .before .before .before .found .given .1))
+
+enum-told-3 : tie.Need-enum-told-3
+enum-told-3 c = search needs
+
+value-of-requires : tie.Need-value-of-requires
+value-of-requires c κs = search needs
+
+write-requires : tie.Need-write-requires
+write-requires c κs = ((sym (c .before .before .before .before .before .before .before .before .before .before .well-formed .ensures) ∙ not-false (c .before .before .before .before .before .before .before .before .before .before .well-formed .result) (c .before .before .before .before .before .before .before .before .before .if1 .left)), valid-place _ _ _ _ (sym (c .before .before .before .before .before .before .before .before .place-of .ensures) ∙ c .before .before .before .before .before .before .found .given .1))
+
+same-length-5 : tie.Need-same-length-5
+same-length-5 c = search needs
+
+same-length-6 : tie.Need-same-length-6
+same-length-6 c = search needs
+
+returns-3 : tie.Need-returns-3
+returns-3 c = well (c .before .before .before .before .before .before .before .before .before .before .before .before .before .before .before .before .before .args .shape) (access (c .before .before .before .before .before .before .before .before .before .before .before .before .before .before .before .before .before .args .request)) (lent (now (c .before .before .before .before .before .before .before .before .before .before .before .before .before .before .before .before .before .args .dist)) (now (c .before .before .before .before .before .before .before .before .before .before .before .before .before .before .before .before .before .args .redist)) (now (c .before .before .before .before .before .before .before .before .before .before .before .before .before .before .before .before .before .args .dist-presence)) (now (c .before .before .before .before .before .before .before .before .before .before .before .before .before .before .before .before .before .args .redist-presence))) (sym (c .before .before .before .before .before .before .before .before .before .before .well-formed .ensures) ∙ not-false (c .before .before .before .before .before .before .before .before .before .before .well-formed .result) (c .before .before .before .before .before .before .before .before .before .if1 .left)) _ _ _ (access-read (c .before .before .before .before .before .before .before .before .before .before .before .before .before .before .before .before .before .args .shape) (lent (now (c .before .before .before .before .before .before .before .before .before .before .before .before .before .before .before .before .before .args .dist)) (now (c .before .before .before .before .before .before .before .before .before .before .before .before .before .before .before .before .before .args .redist)) (now (c .before .before .before .before .before .before .before .before .before .before .before .before .before .before .before .before .before .args .dist-presence)) (now (c .before .before .before .before .before .before .before .before .before .before .before .before .before .before .before .before .before .args .redist-presence))) (λ k. c .before .before .before .before .before .before .before .before .before .before .before .before .before .before .before .before .slice-known .given k .fits) (λ k. c .before .before .before .before .before .before .before .before .before .before .before .before .before .before .before .slice-known2 .given k .fits) (c .before .before .before .before .before .before .before .before .before .before .before .before .before .before .before .before .before .args .request) _ _ (sym (c .before .before .before .before .before .before .before .before .place-of .ensures) ∙ c .before .before .before .before .before .before .found .given .1) (c .before .before .before .enum-told2 .given .1) (c .read .ensures))
+
+same-length-7 : tie.Need-same-length-7
+same-length-7 c = search needs
+
+same-length-8 : tie.Need-same-length-8
+same-length-8 c = search needs
+
+returns-4 : tie.Need-returns-4
+returns-4 c = well (c .before .before .before .before .before .before .before .before .before .before .before .before .before .before .before .before .before .before .before .before .before .before .args .shape) (access (c .before .before .before .before .before .before .before .before .before .before .before .before .before .before .before .before .before .before .before .before .before .before .args .request)) (lent (now (c .before .before .before .before .before .before .before .before .before .before .before .before .before .before .before .before .before .before .before .before .before .before .args .dist)) (now (c .before .before .before .before .before .before .before .before .before .before .before .before .before .before .before .before .before .before .before .before .before .before .args .redist)) (now (c .before .before .before .before .before .before .before .before .before .before .before .before .before .before .before .before .before .before .before .before .before .before .args .dist-presence)) (now (c .before .before .before .before .before .before .before .before .before .before .before .before .before .before .before .before .before .before .before .before .before .before .args .redist-presence))) (sym (c .before .before .before .before .before .before .before .before .before .before .before .before .before .before .before .well-formed .ensures) ∙ not-false (c .before .before .before .before .before .before .before .before .before .before .before .before .before .before .before .well-formed .result) (c .before .before .before .before .before .before .before .before .before .before .before .before .before .before .if1 .left)) _ _ _ (access-write (c .before .before .before .before .before .before .before .before .before .before .before .before .before .before .before .before .before .before .before .before .before .before .args .shape) (lent (now (c .before .before .before .before .before .before .before .before .before .before .before .before .before .before .before .before .before .before .before .before .before .before .args .dist)) (now (c .before .before .before .before .before .before .before .before .before .before .before .before .before .before .before .before .before .before .before .before .before .before .args .redist)) (now (c .before .before .before .before .before .before .before .before .before .before .before .before .before .before .before .before .before .before .before .before .before .before .args .dist-presence)) (now (c .before .before .before .before .before .before .before .before .before .before .before .before .before .before .before .before .before .before .before .before .before .before .args .redist-presence))) (λ k. c .before .before .before .before .before .before .before .before .before .before .before .before .before .before .before .before .before .before .before .before .before .slice-known .given k .fits) (λ k. c .before .before .before .before .before .before .before .before .before .before .before .before .before .before .before .before .before .before .before .before .slice-known2 .given k .fits) (c .before .before .before .before .before .before .before .before .before .before .before .before .before .before .before .before .before .before .before .before .before .before .args .request) _ _ _ (sym (c .before .before .before .before .before .before .before .before .before .before .before .before .before .place-of .ensures) ∙ c .before .before .before .before .before .before .before .before .before .before .before .found .given .1) (c .before .before .before .before .before .before .before .before .enum-told3 .given .1) (rw (c .before .before .before .before .before .before .before .value-of .ensures) at (c .before .before .before .before .write .ensures)))
+
+pub access-spec : {M : Type 1} → statement M
+access-spec =
+    tie.close
+    (tie.spec
+    well-formed-requires
+    same-length
+    same-length-2
+    returns
+    place-of-requires
+    enum-known-found
+    enum-told
+    refused-requires
+    same-length-3
+    same-length-4
+    returns-2
+    enum-told-2
+    read-requires
+    enum-told-3
+    value-of-requires
+    write-requires
+    same-length-5
+    same-length-6
+    returns-3
+    same-length-7
+    same-length-8
+    returns-4)

@@ -1,0 +1,6 @@
+pub mod Facts
+pub mod Ruled
+pub mod Words
+pub mod Uses
+pub mod Named
+pub mod Slots

@@ -1,0 +1,87 @@
+// The events on one interrupt: wire, activate, deactivate.
+ghost use mathlib.Core.Path.{_≡_};
+ghost use mathlib.Core.Bool.{Bool, true};
+ghost use Prim.Native.Nat.{_<_};
+ghost use lib.ListN.{length, getD};
+ghost use Rattle.meaning.specs.Cell.{decode, encode};
+ghost use Rattle.meaning.specs.Layout.{lent, wellFormed};
+ghost use Rattle.engine.specs.Event.{stepOf, answerTo, effectOf, happenedAt};
+ghost use Rattle.engine.specs.Stepped.{Stepped};
+use effects::event::activate;
+use effects::event::activate_answer;
+use effects::event::deactivate;
+use effects::event::deactivate_answer;
+use effects::event::wire;
+use effects::event::wire_answer;
+use layout::home::locate;
+use types::Answer;
+use types::Frame;
+use types::Home;
+use types::Refusal;
+use types::Shape;
+use types::Side;
+
+// A wire event stores a level; activation and deactivation name a side.
+pub enum Event {
+    Wire(bool),
+    Activate(Side),
+    Deactivate(Side),
+}
+
+// What an event on the implemented interrupt m, with the record r, is answered.
+fn answer_to(event: Event, m: u32, r: u8) -> Answer
+    ensures { λ a. ⌜ a ≡ answerTo event m (decode true r) ⌝ }
+{
+    match event {
+        Event::Wire(_) => wire_answer(true, m, r),
+        Event::Activate(side) => activate_answer(side, true, m, r),
+        Event::Deactivate(side) => deactivate_answer(side, true, m, r),
+    }
+}
+
+fn effect_of(event: Event, m: u32, r: u8) -> u8
+    ensures { λ x. ⌜ ((i : Bool) → x ≡ encode (effectOf event m (decode i r))) ⌝ }
+{
+    match event {
+        Event::Wire(level) => wire(level, m, r),
+        Event::Activate(_) => activate(r),
+        Event::Deactivate(_) => deactivate(r),
+    }
+}
+
+// The event at the slot of its interrupt; a refused one stores nothing.
+fn happen_at(records: &mut [u8], slot: u32, m: u32, event: Event) -> Answer
+    requires { ⌜ slot < length (now records) ⌝ }
+    ensures { λ a. ⌜ (a ≡ answerTo event m (decode true (getD (now (records .entry)) slot 0))) × (now (records .exit) ≡ happenedAt event m slot (now (records .entry))) ⌝ }
+{
+    let at = slot as usize;
+    let r = records[at];
+    let answer = answer_to(event, m, r);
+    let Answer::Done(_) = answer else {
+        return answer;
+    };
+    records[at] = effect_of(event, m, r);
+    answer
+}
+
+pub fn happen(
+    dist: &mut [u8],
+    redist: &mut [u8],
+    dist_presence: &[u32],
+    redist_presence: &[u32],
+    shape: Shape,
+    m: u32,
+    event: Event,
+) -> Answer
+    requires { ⌜ wellFormed shape (lent (now dist) (now redist) (now «dist_presence») (now «redist_presence»)) ≡ true ⌝ }
+    ensures { λ a. ⌜ Stepped shape (stepOf event m) (lent (now (dist .entry)) (now (redist .entry)) (now («dist_presence» .entry)) (now («redist_presence» .entry))) a (now (dist .exit)) (now (redist .exit)) ⌝ }
+{
+    let home = locate(dist_presence, redist_presence, shape, m);
+    let Home::Slot(frame, slot, _) = home else {
+        return Answer::Refused(Refusal::Intid);
+    };
+    match frame {
+        Frame::Dist => happen_at(dist, slot, m, event),
+        Frame::Redist => happen_at(redist, slot, m, event),
+    }
+}

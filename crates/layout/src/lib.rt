@@ -1,0 +1,3 @@
+// Where the lent tables keep an interrupt, and which of their slots a register word stands for.
+pub mod home;
+pub mod span;

@@ -1,0 +1,81 @@
+// The loops over the records behind one register word: 28 or 32 of them, 12 or 16 behind an ICFGR word.
+// The part of the table that holds them is lent; nothing is copied, and no record outside the part is looked at.
+ghost use mathlib.Core.Path.{_≡_};
+ghost use Prim.Native.Nat.{_*_, _<_, _≤_};
+ghost use lib.ListN.{length};
+ghost use Rattle.lists.specs.Word.{digitAt};
+ghost use Rattle.meaning.specs.Registers.{digitBits};
+ghost use Rattle.words.specs.Part.{Fitting, shownAt, gathered, storedAt, stored};
+use effects::write::touched;
+use record::view::visible;
+use registers::families::digit_bits;
+use types::Family;
+use types::Side;
+
+// Who accesses which family, the INTID of the part's first record, and (bit x) whether record x is implemented.
+pub struct Word {
+    pub side: Side,
+    pub family: Family,
+    pub first: u32,
+    pub implemented: u32,
+}
+
+// The digit that the word shows of record x.
+fn shown_at(word: Word, x: u32, r: u8) -> u32
+    requires { ⌜ (x < 32) × (word .first ≤ 8192) ⌝ }
+    ensures { λ d. ⌜ d ≡ shownAt word x r ⌝ }
+{
+    let side = word.side;
+    let family = word.family;
+    visible(
+        side,
+        family,
+        (word.implemented >> x) % 2 == 1,
+        word.first + x,
+        r,
+    )
+}
+
+// Record x after a write of `value` to the word.
+fn stored_at(word: Word, value: u32, x: u32, r: u8) -> u8
+    requires { ⌜ (digitBits (word .family) * x < 32) × (word .first ≤ 8192) ⌝ }
+    ensures { λ b. ⌜ b ≡ storedAt word value x r ⌝ }
+{
+    let side = word.side;
+    let family = word.family;
+    let bits = digit_bits(family);
+    let d = (value >> (bits * x)) % (1 << bits);
+    touched(
+        side,
+        family,
+        (word.implemented >> x) % 2 == 1,
+        d,
+        word.first + x,
+        r,
+    )
+}
+
+// What a read of the word shows.
+pub fn gather(part: &[u8], word: Word) -> u32
+    requires { ⌜ Fitting word (now part) ⌝ }
+    ensures { λ v. ⌜ v ≡ gathered word (now (part .entry)) ⌝ }
+{
+    let family = word.family;
+    let bits = digit_bits(family);
+    let mut value: u32 = 0;
+    for x in 0..part.len() {
+        let d = shown_at(word, x as u32, part[x]);
+        value = value | (d << (bits * (x as u32)));
+    }
+    value
+}
+
+// What a write of `value` to the word leaves.
+pub fn store(part: &mut [u8], word: Word, value: u32)
+    requires { ⌜ Fitting word (now part) ⌝ }
+    ensures { λ _. ⌜ now (part .exit) ≡ stored word value (now (part .entry)) ⌝ }
+{
+    for x in 0..part.len() {
+        part[x] = stored_at(word, value, x as u32, part[x]);
+    }
+}
