@@ -6,7 +6,7 @@ use Prim.Native.Nat.{ℕ, _+_, _-_, _<_, _≤_}
 use native.Mathlib.Nat.{zero-add}
 use native.Mathlib.Omega.{arith}
 use lib.Dec.{eqb, leb}
-use lib.ListN.{length, take, drop, take-append-drop, length-take, length-drop, drop-of-length-le, replicate}
+use lib.ListN.{length, take, drop, take-append-drop, length-take, length-drop, drop-of-length-le, length-append, replicate}
 use borrow.Author.Tests.{le-leb, lt-leb, eq-eqb, ne-eqb}
 use Rattle.meaning.specs.Layout.{Tables, lent}
 use Rattle.text.specs.Sheet.{Put}
@@ -14,7 +14,7 @@ use Rattle.bench.specs.declared.Ended.{Ended}
 use Rattle.bench.specs.declared.Ended.the-variants.{Said, Full}
 use Rattle.script.specs.Replay.{startTables, startProgress, start, ending, finished, replayed}
 use Rattle.script.specs.Stream.{Live, Fed, fed, closed, startLive, within}
-use Rattle.script.proofs.Pieces.{within-fed}
+use Rattle.script.proofs.Pieces.{within-fed, within-goes}
 use Rattle.script.proofs.Lines.{streamed}
 use Rattle.bench.specs.declared.State.{State}
 use Rattle.bench.specs.Living.{liveOf, Taken, startState}
@@ -145,3 +145,18 @@ module _ {s : State} {d r dp rp : List ℕ} (line : List ℕ) (hs : s ≡ startS
       → Taken (taken (length b) input) s′ t line′ input used b b′ e
   from-start input b s′ t line′ used b′ e k =
       subst (λ (l : Live). Taken (within (length b) l input) s′ t line′ input used b b′ e) (start-live s d r dp rp line hs hd hr hdp hrp hl) k
+
+-- with 128 bytes of room, some of a piece is taken
+pub taken-goes : (s : State) (t : Tables) (line piece b : List ℕ) {s′ : State} {t′ : Tables} {line′ : List ℕ} {used : ℕ} {b′ : List ℕ} {e : ℕ}
+    → Taken (within (length b) (liveOf s t line [] 0) piece) s′ t′ line′ piece used b b′ e → 128 ≤ length b → 0 < length piece → 0 < used
+taken-goes s t line piece b {used = used} got room some =
+    omega (arith, sym (length-drop used piece) ∙ ap length (got .left), within-goes (length b) (liveOf s t line [] 0) piece room some)
+
+-- what is said lies within the buffer
+pub said-fits : (n : ℕ) (b t b′ : List ℕ) → Said n ≡ endedOf (length b) t → b′ ≡ over (endedText (length b) t) b → n ≤ length b′
+unfolding endedOf endedText
+said-fits n b t b′ h k = by (leb 32 (length b)) h k
+  where
+    by : (x : Bool) → Said n ≡ pick x (Said (length t)) Full → b′ ≡ over (unless x t []) b → n ≤ length b′
+    by true p q = let same : n ≡ length t = cc in omega (arith, same, simp length-append at (ap length q))
+    by false p q = absurd (let z : _≡_ {A = ℕ} 0 1 = cc in omega arith)
