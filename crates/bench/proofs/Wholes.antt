@@ -16,11 +16,11 @@ use Rattle.script.specs.Replay.{startTables, startProgress, start, ending, fini
 use Rattle.script.specs.Stream.{Live, Fed, fed, closed, startLive, within}
 use Rattle.script.proofs.Pieces.{within-fed, within-goes}
 use Rattle.script.proofs.Lines.{streamed}
-use Rattle.bench.specs.declared.State.{State}
-use Rattle.bench.specs.Living.{liveOf, Taken, startState}
+use Rattle.stream.specs.declared.State.{State}
+use Rattle.stream.specs.Living.{liveOf, Taken, startState}
 use Rattle.bench.specs.Whole.{pick, unless, over, endedOf, endedText, enough, taken, wholeOf, wholeText}
 use Rattle.lines.proofs.Reaching.{put-fits}
-use Rattle.bench.proofs.Living.{further}
+use Rattle.stream.proofs.Living.{further}
 
 module _ {b : List ℕ} {t : List ℕ} {b′ : List ℕ} {e : ℕ} where
   pub put-over : Put b 0 t b′ e → b′ ≡ over t b

@@ -4,15 +4,15 @@ ghost use lib.ListN.{length, take};
 ghost use Rattle.script.specs.Replay.{ending};
 ghost use Rattle.bench.specs.Whole.{endedOf, endedText, over, wholeOf, wholeText};
 use crate::Ended;
-use crate::State;
-use crate::stream::feed;
-use crate::stream::first;
-use crate::stream::start;
 use crate::tables::dist_present;
 use crate::tables::dist_records;
 use crate::tables::redist_present;
 use crate::tables::redist_records;
 use steps::answer::put_ending;
+use stream::State;
+use stream::piece::feed;
+use stream::piece::first;
+use stream::piece::start;
 
 // The input has ended: what is still to be written, at the start of `out`.
 pub fn finish(out: &mut [u8], line: &[u8], s: State) -> Ended

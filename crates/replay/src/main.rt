@@ -5,9 +5,6 @@
 ghost use Prim.Native.Nat.{_≤_};
 ghost use lib.ListN.{length};
 use bench::Ended;
-use bench::State;
-use bench::stream::feed;
-use bench::stream::start;
 use bench::tables::dist_present;
 use bench::tables::dist_records;
 use bench::tables::redist_present;
@@ -16,6 +13,9 @@ use bench::whole::finish;
 use libc::STDERR_FILENO;
 use libc::STDIN_FILENO;
 use libc::STDOUT_FILENO;
+use stream::State;
+use stream::piece::feed;
+use stream::piece::start;
 
 // What a turn leaves: the state, whether there may be more to read, and whether a read or a write failed.
 struct After {

@@ -5,7 +5,7 @@ ghost use Prim.Native.Nat.{_+_, _≤_};
 ghost use lib.ListN.{length, take};
 ghost use Rattle.meaning.specs.Layout.{lent};
 ghost use Rattle.script.specs.Stream.{pushed, byteRead, within};
-ghost use Rattle.bench.specs.Living.{liveOf, startState, Living, Taken};
+ghost use Rattle.stream.specs.Living.{liveOf, startState, Living, Taken};
 use crate::Fed;
 use crate::Passed;
 use crate::State;

@@ -7,10 +7,10 @@ use lib.ListN.{length, drop}
 use denote.Ref.{now}
 use Rattle.script.specs.Stream.{within}
 use Rattle.meaning.specs.Layout.{lent}
-use Rattle.bench.specs.Living.{liveOf}
-use Rattle.bench.proofs.Living.{Feeding, feeding-more, feeding-done, feeding-full}
-use Rattle.bench.proofs.stream.feed.Statement.{statement}
-use Rattle.bench.proofs.stream.feed.Tie as tie
+use Rattle.stream.specs.Living.{liveOf}
+use Rattle.stream.proofs.Living.{Feeding, feeding-more, feeding-done, feeding-full}
+use Rattle.stream.proofs.piece.feed.Statement.{statement}
+use Rattle.stream.proofs.piece.feed.Tie as tie
 
 abbrev Inv-loop : tie.InvT-loop
 Inv-loop dist₀ redist₀ dist-presence redist-presence line₀ out₀ piece state₀ end₀ used₀ dist redist line out state end used = (length dist ≡ length dist₀) × (length redist ≡ length redist₀) × (length line ≡ length line₀) × Feeding (within (length out₀) (liveOf state₀ (lent dist₀ redist₀ dist-presence redist-presence) line₀ [] 0) piece) (length out₀) state (lent dist redist dist-presence redist-presence) line out₀ out end piece used

@@ -13,9 +13,9 @@ use Rattle.meaning.specs.Layout.{Tables}
 use Rattle.script.specs.declared.Progress.{Progress}
 use Rattle.script.specs.Run.{Run, lineRead}
 use Rattle.script.specs.Stream.{Live, when, lengthened, pushed, byteRead, Fed, goOn, hasRoom, within}
-use Rattle.bench.specs.declared.State.{State}
+use Rattle.stream.specs.declared.State.{State}
 use Rattle.lines.specs.Reached.{runOf, Reached}
-use Rattle.bench.specs.Living.{liveOf, Living, Taken}
+use Rattle.stream.specs.Living.{liveOf, Living, Taken}
 
 pub pushed-one : (line : List ℕ) (len b : ℕ) → len < length line → take (len + 1) (set line len b) ≡ pushed (length line) (take len line) b
 unfolding pushed

@@ -1,8 +1,8 @@
 use denote.Ref.{now}
-use Rattle.bench.proofs.Living.{pushed-one, pushed-none}
+use Rattle.stream.proofs.Living.{pushed-one, pushed-none}
 use borrow.Author.Needs.{needs}
-use Rattle.bench.proofs.stream.push.Statement.{statement}
-use Rattle.bench.proofs.stream.push.Tie as tie
+use Rattle.stream.proofs.piece.push.Statement.{statement}
+use Rattle.stream.proofs.piece.push.Tie as tie
 
 returns : tie.Need-returns
 returns c = pushed-none _ _ _ (c .if1 .taken)

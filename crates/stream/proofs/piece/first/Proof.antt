@@ -4,8 +4,8 @@ use denote.Ref.{now}
 use lib.ListN.{length-take}
 use lib.Seq.{take-all}
 use borrow.Author.Needs.{needs}
-use Rattle.bench.proofs.stream.first.Statement.{statement}
-use Rattle.bench.proofs.stream.first.Tie as tie
+use Rattle.stream.proofs.piece.first.Statement.{statement}
+use Rattle.stream.proofs.piece.first.Tie as tie
 
 returns : tie.Need-returns
 returns c = sym (take-all _ _ (c .if1 .taken))

@@ -1,9 +1,9 @@
 use native.Mathlib.Omega.{arith}
 use denote.Ref.{now}
-use Rattle.bench.proofs.Living.{living-end, living-byte}
+use Rattle.stream.proofs.Living.{living-end, living-byte}
 use borrow.Author.Needs.{needs}
-use Rattle.bench.proofs.stream.byte.Statement.{statement}
-use Rattle.bench.proofs.stream.byte.Tie as tie
+use Rattle.stream.proofs.piece.byte.Statement.{statement}
+use Rattle.stream.proofs.piece.byte.Tie as tie
 
 line-end-requires : tie.Need-line-end-requires
 line-end-requires c κs = search needs

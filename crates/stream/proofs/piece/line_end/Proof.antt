@@ -1,8 +1,8 @@
 use denote.Ref.{now}
-use Rattle.bench.proofs.Living.{living-line}
+use Rattle.stream.proofs.Living.{living-line}
 use borrow.Author.Needs.{needs}
-use Rattle.bench.proofs.stream.line_end.Statement.{statement}
-use Rattle.bench.proofs.stream.line_end.Tie as tie
+use Rattle.stream.proofs.piece.line_end.Statement.{statement}
+use Rattle.stream.proofs.piece.line_end.Tie as tie
 
 first-requires : tie.Need-first-requires
 first-requires c κs = search needs

@@ -7,7 +7,7 @@ use Rattle.meaning.specs.Layout.{Tables}
 use Rattle.script.specs.Replay.{startProgress}
 use Rattle.script.specs.Stream.{Live, Fed}
 use Rattle.lines.specs.Reached.{runOf}
-use Rattle.bench.specs.declared.State.{State}
+use Rattle.stream.specs.declared.State.{State}
 
 -- the unfinished line is the first bytes of a lent buffer
 abbrev pub liveOf : State → Tables → List ℕ → List ℕ → ℕ → Live

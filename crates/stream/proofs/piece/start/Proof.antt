@@ -1,9 +1,9 @@
 use borrow.Author.Needs.{needs}
 use mathlib.Core.Path.{refl}
 use Rattle.script.specs.Replay.{startProgress}
-use Rattle.bench.specs.Living.{startState}
-use Rattle.bench.proofs.stream.start.Statement.{statement}
-use Rattle.bench.proofs.stream.start.Tie as tie
+use Rattle.stream.specs.Living.{startState}
+use Rattle.stream.proofs.piece.start.Statement.{statement}
+use Rattle.stream.proofs.piece.start.Tie as tie
 
 returns : tie.Need-returns
 unfolding startState startProgress
