@@ -21,6 +21,7 @@ use types::Shape;
 use types::Side;
 use types::Way;
 
+pub mod answer;
 mod place;
 
 // A read or a write at an offset of a frame.

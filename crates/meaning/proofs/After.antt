@@ -50,7 +50,7 @@ records-after s q t Dist = refl
 records-after s q t Redist = refl
 
 -- at a slot: the byte after is the rule's
-slot-after : (s : Shape) (q : Step) (t : Tables) → lengthsFit t ≡ true → (m : ℕ) (r : Frame) (k : ℕ) → Kept m r k
+pub slot-after : (s : Shape) (q : Step) (t : Tables) → lengthsFit t ≡ true → (m : ℕ) (r : Frame) (k : ℕ) → Kept m r k
     → getD (recordsOf r (tablesAfter s q t)) k 0 ≡ encode (act s q m (decode (implemented s t m) (getD (recordsOf r t) k 0)))
 unfolding recordsAfter ruled
 slot-after s q t fit m r k kept =

@@ -1,0 +1,6 @@
+pub mod Runs
+pub mod Laws
+pub mod Tables
+pub mod Answered
+pub mod ReadBack
+pub mod Cleared
