@@ -1,0 +1,59 @@
+// The end of a replay, and a whole replay at once.
+ghost use mathlib.Core.Path.{_≡_};
+ghost use lib.ListN.{length, take};
+ghost use Rattle.script.specs.Replay.{ending};
+ghost use Rattle.bench.specs.Whole.{endedOf, endedText, over, wholeOf, wholeText};
+use crate::Ended;
+use crate::tables::dist_present;
+use crate::tables::dist_records;
+use crate::tables::redist_present;
+use crate::tables::redist_records;
+use steps::answer::put_ending;
+use stream::State;
+use stream::piece::feed;
+use stream::piece::first;
+use stream::piece::start;
+
+// The input has ended: what is still to be written, at the start of `out`.
+pub fn finish(out: &mut [u8], line: &[u8], s: State) -> Ended
+    ensures { λ r. ⌜ ((r ≡ endedOf (length (now (out .entry))) (ending (s .at) (take (s .len) (now (line .entry))))) × (now (out .exit) ≡ over (endedText (length (now (out .entry))) (ending (s .at) (take (s .len) (now (line .entry))))) (now (out .entry)))) ⌝ }
+{
+    if out.len() < 32 {
+        return Ended::Full;
+    }
+    let p = s.at;
+    let len = s.len;
+    Ended::Said(put_ending(out, 0, p, first(line, len)))
+}
+
+// A whole replay: the input's output, at the start of `out`.
+pub fn replay(input: &[u8], out: &mut [u8]) -> Ended
+    ensures { λ r. ⌜ ((r ≡ wholeOf (length (now (out .entry))) (now (input .entry))) × (now (out .exit) ≡ over (wholeText (length (now (out .entry))) (now (input .entry))) (now (out .entry)))) ⌝ }
+{
+    let mut dist = dist_records();
+    let mut redist = redist_records();
+    let present = dist_present();
+    let redist_presence = redist_present();
+    let mut line = [0u8; 18];
+    let fed = feed(
+        &mut dist,
+        &mut redist,
+        &present,
+        &redist_presence,
+        &mut line,
+        out,
+        start(),
+        input,
+    );
+    let end = fed.end;
+    if fed.used < input.len() {
+        return Ended::Full;
+    }
+    if out.len() - end < 32 {
+        return Ended::Full;
+    }
+    let state = fed.state;
+    let p = state.at;
+    let len = state.len;
+    Ended::Said(put_ending(out, end, p, first(&line, len)))
+}

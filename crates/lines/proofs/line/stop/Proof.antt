@@ -1,0 +1,12 @@
+use borrow.Author.Needs.{needs}
+use mathlib.Core.Path.{refl}
+use Rattle.script.specs.Run.{stopped}
+use Rattle.lines.proofs.line.stop.Statement.{statement}
+use Rattle.lines.proofs.line.stop.Tie as tie
+
+returns : tie.Need-returns
+unfolding stopped
+returns c = refl
+
+pub stop-spec : {M : Type 1} → statement M
+stop-spec = tie.close (tie.spec returns)

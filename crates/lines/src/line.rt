@@ -1,0 +1,162 @@
+// What one line does: its value is kept, a whole step goes through the controller, or the line is bad.
+ghost use mathlib.Core.Path.{_≡_};
+ghost use Prim.Native.Nat.{_+_, _≤_, _<_};
+ghost use lib.ListN.{length};
+ghost use Rattle.meaning.specs.Rule.{access as by-access};
+ghost use Rattle.meaning.specs.Step.{stepped};
+ghost use Rattle.text.specs.Sheet.{Put};
+ghost use Rattle.meaning.specs.Layout.{lent};
+ghost use Rattle.script.specs.Run.{shapeOf, requestOf, badText, stopped, badLine, counted, completed, keeping, goodLine, lineRead};
+ghost use Rattle.lines.specs.Reached.{runOf, Reached};
+use crate::Told;
+use controller::access;
+use keys::field;
+use keys::next;
+use keys::rank;
+use script::Progress;
+use steps::answer::put_bad;
+use steps::answer::put_step;
+use steps::request::request_of;
+use steps::request::shape_of;
+use text::Number;
+use types::Answer;
+
+// The one call of the controller: a step, from the values of its lines.
+fn act(
+    dist: &mut [u8],
+    redist: &mut [u8],
+    dist_presence: &[u32],
+    redist_presence: &[u32],
+    values: [u32; 10],
+) -> Answer
+    ensures { λ a. ⌜ record { answered = a; tables = lent (now (dist .exit)) (now (redist .exit)) (now («dist_presence» .entry)) (now («redist_presence» .entry)) } ≡ stepped (shapeOf values) (by-access (requestOf values)) (lent (now (dist .entry)) (now (redist .entry)) (now («dist_presence» .entry)) (now («redist_presence» .entry))) ⌝ }
+{
+    let shape = shape_of(values);
+    let request = request_of(values);
+    access(dist, redist, dist_presence, redist_presence, shape, request)
+}
+
+// One step more is answered.
+fn count(p: Progress) -> Progress
+    requires { ⌜ p .steps < 1000000 ⌝ }
+    ensures { λ r. ⌜ r ≡ counted p ⌝ }
+{
+    let key = p.key;
+    let values = p.values;
+    Progress {
+        key,
+        values,
+        steps: p.steps + 1,
+        over: p.over,
+    }
+}
+
+// A whole step: the controller's answer is written.
+fn complete(
+    dist: &mut [u8],
+    redist: &mut [u8],
+    dist_presence: &[u32],
+    redist_presence: &[u32],
+    out: &mut [u8],
+    end: usize,
+    p: Progress,
+) -> Told
+    requires { ⌜ end + 128 ≤ length (now out) ⌝ }
+    requires { ⌜ p .steps < 1000000 ⌝ }
+    ensures { λ t. ⌜ Reached (completed (runOf p (lent (now (dist .entry)) (now (redist .entry)) (now («dist_presence» .entry)) (now («redist_presence» .entry))) (now (out .entry)) end)) (t .at) (lent (now (dist .exit)) (now (redist .exit)) (now («dist_presence» .entry)) (now («redist_presence» .entry))) (now (out .entry)) end (now (out .exit)) (t .end) ⌝ }
+{
+    let values = p.values;
+    let answer = act(dist, redist, dist_presence, redist_presence, values);
+    let at = count(p);
+    let last = put_step(out, end, at.steps, answer);
+    Told { at, end: last }
+}
+
+// The line's value is kept under its key, and the next key's turn comes.
+fn keep(p: Progress, v: u32) -> Progress
+    ensures { λ r. ⌜ r ≡ keeping p v ⌝ }
+{
+    let key = p.key;
+    let mut values = p.values;
+    let i = rank(key);
+    values[i] = v;
+    Progress {
+        key: next(key),
+        values,
+        steps: p.steps,
+        over: p.over,
+    }
+}
+
+fn good(
+    dist: &mut [u8],
+    redist: &mut [u8],
+    dist_presence: &[u32],
+    redist_presence: &[u32],
+    out: &mut [u8],
+    end: usize,
+    p: Progress,
+    v: u32,
+) -> Told
+    requires { ⌜ end + 128 ≤ length (now out) ⌝ }
+    requires { ⌜ p .steps < 1000000 ⌝ }
+    ensures { λ t. ⌜ Reached (goodLine (runOf p (lent (now (dist .entry)) (now (redist .entry)) (now («dist_presence» .entry)) (now («redist_presence» .entry))) (now (out .entry)) end) v) (t .at) (lent (now (dist .exit)) (now (redist .exit)) (now («dist_presence» .entry)) (now («redist_presence» .entry))) (now (out .entry)) end (now (out .exit)) (t .end) ⌝ }
+{
+    let key = p.key;
+    let at = keep(p, v);
+    if rank(key) == 9 {
+        return complete(dist, redist, dist_presence, redist_presence, out, end, at);
+    }
+    Told { at, end }
+}
+
+fn stop(p: Progress) -> Progress
+    ensures { λ r. ⌜ r ≡ stopped p ⌝ }
+{
+    let key = p.key;
+    let values = p.values;
+    Progress {
+        key,
+        values,
+        steps: p.steps,
+        over: true,
+    }
+}
+
+fn bad(out: &mut [u8], end: usize, p: Progress) -> Told
+    requires { ⌜ end + 128 ≤ length (now out) ⌝ }
+    ensures { λ t. ⌜ ((t .at ≡ stopped p) × Put (now (out .entry)) end (badText p) (now (out .exit)) (t .end)) ⌝ }
+{
+    let last = put_bad(out, end, p);
+    Told {
+        at: stop(p),
+        end: last,
+    }
+}
+
+// What one line, without its end, does.
+pub fn line_read(
+    dist: &mut [u8],
+    redist: &mut [u8],
+    dist_presence: &[u32],
+    redist_presence: &[u32],
+    out: &mut [u8],
+    end: usize,
+    p: Progress,
+    line: &[u8],
+) -> Told
+    requires { ⌜ end + 128 ≤ length (now out) ⌝ }
+    ensures { λ t. ⌜ Reached (lineRead (runOf p (lent (now (dist .entry)) (now (redist .entry)) (now («dist_presence» .entry)) (now («redist_presence» .entry))) (now (out .entry)) end) (now (line .entry))) (t .at) (lent (now (dist .exit)) (now (redist .exit)) (now («dist_presence» .entry)) (now («redist_presence» .entry))) (now (out .entry)) end (now (out .exit)) (t .end) ⌝ }
+{
+    if p.over {
+        return Told { at: p, end };
+    }
+    if 1000000 <= p.steps {
+        return bad(out, end, p);
+    }
+    let key = p.key;
+    match field(line, key) {
+        Number::Is(v) => good(dist, redist, dist_presence, redist_presence, out, end, p, v),
+        Number::Bad => bad(out, end, p),
+    }
+}

@@ -1,0 +1,5 @@
+pub mod Prefixes
+pub mod Pieces
+pub mod Lines
+pub mod Counts
+pub mod Cases

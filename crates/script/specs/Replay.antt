@@ -1,0 +1,73 @@
+-- A whole replay: the output for an input, by lines.
+use mathlib.Core.Bool.{Bool, true, false, _&&_}
+use mathlib.Core.List.{List, [], _∷_, _++_}
+use Prim.Native.Nat.{ℕ}
+use lib.Dec.{eqb}
+use lib.ListN.{length, replicate}
+use Rattle.meaning.specs.Layout.{Tables}
+use Rattle.text.specs.Text.{bytes}
+use Rattle.text.specs.Number.{numbered}
+use Rattle.keys.specs.declared.Key.{Key}
+use Rattle.keys.specs.declared.Key.the-variants as key
+use Rattle.keys.specs.Keys.{rank}
+use Rattle.script.specs.declared.Progress.{Progress}
+use Rattle.script.specs.Run.{Run, badText, lineRead}
+
+-- A text cut at its line ends: its whole lines, and the rest after the last line end.
+pub record Cut : Type 0 where
+  pub lines : List (List ℕ)
+  pub rest : List ℕ
+
+abbrev pub longer : ℕ → List (List ℕ) → List ℕ → Cut
+longer b [] rest = record { lines = []; rest = b ∷ rest }
+longer b (l ∷ ls) rest = record { lines = (b ∷ l) ∷ ls; rest = rest }
+
+abbrev pub ending-at : Bool → ℕ → Cut → Cut
+ending-at true b k = record { lines = [] ∷ k .lines; rest = k .rest }
+ending-at false b k = longer b (k .lines) (k .rest)
+
+unfoldable pub cut : List ℕ → Cut
+cut [] = record { lines = []; rest = [] }
+cut (b ∷ bs) = ending-at (eqb b 10) b (cut bs)
+
+-- All interrupts present, records start at 0.
+unfoldable pub startTables : Tables
+startTables =
+    record {
+      dist = replicate 2012 0;
+      redist = replicate 96 0;
+      distPresence = replicate 63 4294967295;
+      redistPresence = replicate 3 4294967295;
+    }
+
+unfoldable pub startProgress : Progress
+startProgress = record { key = key.Lines; values = replicate 10 0; steps = 0; over = false }
+
+unfoldable pub start : Run
+start = record { at = startProgress; tables = startTables; said = [] }
+
+unfoldable pub linesRead : Run → List (List ℕ) → Run
+linesRead r [] = r
+linesRead r (t ∷ ts) = linesRead (lineRead r t) ts
+
+abbrev pub unless : Bool → List ℕ → List ℕ → List ℕ
+unless true t u = t
+unless false t u = u
+
+-- op= is a step's first line: only before it may the input end
+abbrev pub isFirst : Key → Bool
+isFirst k = eqb (rank k) 4
+
+-- What is written at the end of the input, after its last whole line: nothing once a bad line was read; end= and the count;
+-- or, for a missing line or one without its line end, bad=.
+unfoldable pub ending : Progress → List ℕ → List ℕ
+ending p rest =
+    unless (p .over) []
+    (unless (isFirst (p .key) && eqb (length rest) 0) (numbered (bytes "end=") (p .steps)) (badText p))
+
+unfoldable pub finished : Run → List ℕ → List ℕ
+finished r rest = r .said ++ ending (r .at) rest
+
+-- THE REPLAY: the whole output for a whole input
+unfoldable pub replayed : List ℕ → List ℕ
+replayed input = finished (linesRead start (cut input .lines)) (cut input .rest)

@@ -1,0 +1,91 @@
+// What is written: a step's three lines, and the line that ends a replay.
+ghost use mathlib.Core.Path.{_≡_};
+ghost use Prim.Native.Nat.{_+_, _≤_};
+ghost use lib.ListN.{length};
+ghost use Rattle.meaning.specs.Answers.{number, statusOf, valueOf};
+ghost use Rattle.text.specs.Sheet.{Put};
+ghost use Rattle.script.specs.Run.{lineNumber, badText, stepText};
+ghost use Rattle.script.specs.Replay.{ending};
+use keys::rank;
+use script::Progress;
+use text::write::put_line;
+use types::Answer;
+use types::Refusal;
+
+fn number_of(r: Refusal) -> u32
+    ensures { λ n. ⌜ n ≡ number r ⌝ }
+{
+    match r {
+        Refusal::Shape => 1,
+        Refusal::Width => 2,
+        Refusal::Alignment => 3,
+        Refusal::Offset => 4,
+        Refusal::Unlisted => 5,
+        Refusal::Narrow => 6,
+        Refusal::Intid => 7,
+        Refusal::SgiWire => 8,
+        Refusal::State => 9,
+    }
+}
+
+fn status_of(a: Answer) -> u32
+    ensures { λ n. ⌜ n ≡ statusOf a ⌝ }
+{
+    match a {
+        Answer::Done(_) => 0,
+        Answer::Refused(r) => number_of(r),
+    }
+}
+
+fn value_of(a: Answer) -> u32
+    ensures { λ n. ⌜ n ≡ valueOf a ⌝ }
+{
+    match a {
+        Answer::Done(v) => v,
+        Answer::Refused(_) => 0,
+    }
+}
+
+// step=, status=, value=
+pub fn put_step(out: &mut [u8], end: usize, n: u32, a: Answer) -> usize
+    requires { ⌜ end + 128 ≤ length (now out) ⌝ }
+    ensures { λ r. ⌜ Put (now (out .entry)) end (stepText n a) (now (out .exit)) r ⌝ }
+{
+    let status = put_line(out, end, b"step=", n as u64);
+    let value = put_line(out, status, b"status=", status_of(a) as u64);
+    put_line(out, value, b"value=", value_of(a) as u64)
+}
+
+// The number of the line whose turn it is.
+fn line_number(p: Progress) -> u64
+    ensures { λ n. ⌜ n ≡ lineNumber p ⌝ }
+{
+    let key = p.key;
+    (rank(key) as u64) + 6 * (p.steps as u64) + 1
+}
+
+// bad=
+pub fn put_bad(out: &mut [u8], end: usize, p: Progress) -> usize
+    requires { ⌜ end + 32 ≤ length (now out) ⌝ }
+    ensures { λ r. ⌜ Put (now (out .entry)) end (badText p) (now (out .exit)) r ⌝ }
+{
+    put_line(out, end, b"bad=", line_number(p))
+}
+
+// What ends a replay: nothing once a bad line was read, end= between two steps, and bad= elsewhere.
+pub fn put_ending(out: &mut [u8], end: usize, p: Progress, rest: &[u8]) -> usize
+    requires { ⌜ end + 32 ≤ length (now out) ⌝ }
+    ensures { λ r. ⌜ Put (now (out .entry)) end (ending p (now (rest .entry))) (now (out .exit)) r ⌝ }
+{
+    if p.over {
+        return end;
+    }
+    let key = p.key;
+    if rest.len() != 0 {
+        return put_bad(out, end, p);
+    }
+    if rank(key) != 4 {
+        return put_bad(out, end, p);
+    }
+    put_line(out, end, b"end=", p.steps as u64)
+}

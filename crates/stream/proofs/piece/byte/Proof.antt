@@ -1,0 +1,47 @@
+use native.Mathlib.Omega.{arith}
+use denote.Ref.{now}
+use Rattle.stream.proofs.Living.{living-end, living-byte}
+use borrow.Author.Needs.{needs}
+use Rattle.stream.proofs.piece.byte.Statement.{statement}
+use Rattle.stream.proofs.piece.byte.Tie as tie
+
+line-end-requires : tie.Need-line-end-requires
+line-end-requires c κs = search needs
+
+same-length : tie.Need-same-length
+same-length c = search needs
+
+same-length-2 : tie.Need-same-length-2
+same-length-2 c = search needs
+
+same-length-3 : tie.Need-same-length-3
+same-length-3 c = search needs
+
+same-length-4 : tie.Need-same-length-4
+same-length-4 c = search needs
+
+returns : tie.Need-returns
+returns c = living-end (c .before .before .before .before .before .before .before .before .before .before .before .before .before .before .before .before .before .before .args .s) _ (now (c .before .before .before .before .before .before .before .before .before .before .before .before .before .before .before .before .before .before .args .line)) _ _ _ _ _ (c .before .before .before .before .before .before .before .before .before .before .before .if1 .taken) (c .before .before .before .before .before .before .line-end .ensures)
+
+push-requires : tie.Need-push-requires
+push-requires c κs = search needs
+
+same-length-5 : tie.Need-same-length-5
+same-length-5 c = search needs
+
+returns-2 : tie.Need-returns-2
+returns-2 c = let room = c .before .before .before .before .before .before .before .before .before .before .before .before .pre in living-byte (c .before .before .before .before .before .before .before .before .before .before .before .before .args .s) _ (now (c .before .before .before .before .before .before .before .before .before .before .before .before .args .line)) _ _ _ _ _ (c .before .before .before .before .before .if1 .left) (omega arith) (c .before .before .push .kept .0) (c .before .before .push .ensures)
+
+pub byte-spec : {M : Type 1} → statement M
+byte-spec =
+    tie.close
+    (tie.spec
+    line-end-requires
+    same-length
+    same-length-2
+    same-length-3
+    same-length-4
+    returns
+    push-requires
+    same-length-5
+    returns-2)

@@ -1,0 +1,102 @@
+-- Numbers in text, digit by digit; what is too large, or too long, is none.
+use mathlib.Core.Path.{_≡_, refl, sym, ap, _∙_}
+use mathlib.Core.Bool.{Bool, true, false, _&&_, _||_}
+use mathlib.Core.List.{List, [], _∷_, _++_}
+use Prim.Native.Nat.{ℕ, zero, suc, _+_, _*_, _-_, _/_, _%_, _^_, _<_, _≤_, zero-le}
+use native.Mathlib.Nat.{not-suc-le-zero, pow-succ', mul-assoc, mul-le-mul, mul-le-mul-right, pow-le-pow-right}
+use native.Mathlib.Numerals.{add-one, sub-one}
+use native.Mathlib.Omega.{arith}
+use lib.Dec.{eqb, ltb, leb}
+use lib.ListN.{length, getD, drop, length-append}
+use lib.Seq.{drop-cons, drop-length}
+use borrow.Author.Tests.{lt-leb, lt-ltb, le-ltb, leb-true, eqb-false, ne-eqb}
+use Rattle.text.specs.declared.Number.{Number}
+use Rattle.text.specs.declared.Number.the-variants.{Is, Bad}
+use Rattle.text.specs.Number.{choose, isDigit, limited, digitsAfter, unless, digitsOf, decimal, numbered, leadingZero, numberIn}
+
+pub digits-step : (n : ℕ) (t : List ℕ) (i : ℕ) → i < length t
+    → digitsAfter n (drop i t) ≡ choose (isDigit (getD t i 0)) (digitsAfter (n * 10 + (getD t i 0 - 48)) (drop (i + 1) t)) Bad
+unfolding digitsAfter
+digits-step n t i h = rw (add-one, drop-cons t i 0 h)
+
+pub digits-end : (n : ℕ) (t : List ℕ) (i : ℕ) → i ≡ length t → digitsAfter n (drop i t) ≡ limited 4294967295 n
+unfolding digitsAfter
+digits-end n t i h = rw (h, drop-length)
+
+chosen : (b : Bool) {x y : Number} → x ≡ y → choose b x y ≡ y
+chosen true h = h
+chosen false h = refl
+
+-- past the limit no further digit leads back
+pub digits-big : (n : ℕ) (t : List ℕ) → 4294967295 < n → digitsAfter n t ≡ Bad
+unfolding digitsAfter limited
+digits-big n [] h = rw (lt-leb n 4294967295 h)
+digits-big n (b ∷ t) h = chosen (isDigit b) (digits-big (n * 10 + (b - 48)) t (omega arith))
+
+length-unless : (b : Bool) (t : List ℕ) (k : ℕ) → length t ≤ k → length (unless b t) ≤ k
+length-unless true t k h = zero-le
+length-unless false t k h = h
+
+pub length-digits : (k n : ℕ) → length (digitsOf k n) ≤ k
+unfolding digitsOf
+length-digits zero n = zero-le
+length-digits (suc k) n =
+    let h = length-unless (ltb n 10) (digitsOf k (n / 10)) k (length-digits k (n / 10)) in
+    simp length-append (omega arith)
+
+pub length-decimal : (n : ℕ) → length (decimal n) ≤ 20
+unfolding decimal
+length-decimal n = length-digits 20 n
+
+pub digits-one : (k n : ℕ) → (k ≡ 0 → ⊥) → n < 10 → digitsOf k n ≡ (48 + n % 10) ∷ []
+unfolding digitsOf
+digits-one zero n h l = absurd (h refl)
+digits-one (suc k) n h l = rw (lt-ltb n 10 l)
+
+pub digits-more : (k n : ℕ) → (k ≡ 0 → ⊥) → 10 ≤ n → digitsOf k n ≡ digitsOf (k - 1) (n / 10) ++ ((48 + n % 10) ∷ [])
+unfolding digitsOf
+digits-more zero n h l = absurd (h refl)
+digits-more (suc k) n h l = rw (le-ltb n 10 l, sub-one)
+
+-- a number whose digits run on past the limit is none
+digits-long : (n : ℕ) (t : List ℕ) → 4294967295 < n * 10 ^ length t → digitsAfter n t ≡ Bad
+unfolding digitsAfter limited
+digits-long n [] h = rw (lt-leb n 4294967295 (omega arith))
+digits-long n (b ∷ t) h = chosen (isDigit b) (digits-long (n * 10 + (b - 48)) t longer)
+  where
+    shift : n * 10 ^ suc (length t) ≡ n * 10 * 10 ^ length t
+    shift = rw (pow-succ' 10 (length t)) (sym (mul-assoc n 10 (10 ^ length t)))
+
+    step : n * 10 ≤ n * 10 + (b - 48)
+    step = omega arith
+
+    longer : 4294967295 < (n * 10 + (b - 48)) * 10 ^ length t
+    longer = omega (arith, h, shift, mul-le-mul-right (10 ^ length t) step)
+
+long-from : (b : ℕ) (t : List ℕ) → eqb b 48 ≡ false → 10 ≤ length t → digitsAfter 0 (b ∷ t) ≡ Bad
+unfolding digitsAfter
+long-from b t h l = by (leb 48 b) refl
+  where
+    power : 10 ^ 10 ≤ 10 ^ length t
+    power = pow-le-pow-right (omega arith) l
+
+    by : (x : Bool) → leb 48 b ≡ x → digitsAfter 0 (b ∷ t) ≡ Bad
+    by true e =
+        let most = leb-true 48 b e in
+        let first : 1 ≤ 0 * 10 + (b - 48) = omega (arith, eqb-false b 48 h) in
+        chosen (isDigit b) (digits-long (0 * 10 + (b - 48)) t (omega (arith, mul-le-mul first power)))
+    by false e = rw e
+
+-- no number has more than ten digits
+pub number-long : (t : List ℕ) → 11 ≤ length t → numberIn t ≡ Bad
+unfolding numberIn leadingZero
+number-long [] h = absurd (not-suc-le-zero h)
+number-long (b ∷ t) h = by (eqb b 48) refl
+  where
+    by : (x : Bool) → eqb b 48 ≡ x → numberIn (b ∷ t) ≡ Bad
+    by true e = rw (ne-eqb (suc (length t)) 0 (omega arith), lt-ltb 1 (suc (length t)) (omega arith), e)
+    by false e = rw (ne-eqb (suc (length t)) 0 (omega arith), lt-ltb 1 (suc (length t)) (omega arith), e) (long-from b t e (omega arith))
+
+pub length-numbered : (key : List ℕ) (n : ℕ) → length (numbered key n) ≤ length key + 21
+unfolding numbered
+length-numbered key n = let h = length-decimal n in simp length-append (omega arith)
