@@ -78,7 +78,7 @@ written-kept s a (place.Extended r f n) m c h = gated-false (names (place.Extend
 written-kept s a place.Typer m c h = refl
 written-kept s a (place.Message g) m c h = gated-false (addresses s (writtenValue (a .width) (a .value)) m) _ c h
 
-access-kept : (s : Shape) (a : Access) (p : Place) → placeOf (a .frame) (a .width) (a .offset) ≡ At p → (m : ℕ) (c : Cell) → reachedBy s a p m ≡ false → act s (access a) m c ≡ c
+pub access-kept : (s : Shape) (a : Access) (p : Place) → placeOf (a .frame) (a .width) (a .offset) ≡ At p → (m : ℕ) (c : Cell) → reachedBy s a p m ≡ false → act s (access a) m c ≡ c
 unfolding act
 access-kept s a p e m c h = ap (λ (d : Decoded). accessed s a d m c) e ∙ by (a .way)
   where

@@ -56,7 +56,7 @@ access-left s a (decoded.At p) cells r m h = by (a .way) h
     by Read e = refl
     by Write e = absurd (let z : _≡_ {A = ℕ} 0 1 = cc in omega arith)
 
-step-left : (s : Shape) (q : Step) (cells : Cells) (r : Refusal) (m : ℕ) → answer s q cells ≡ Refused r → act s q m (cells m) ≡ cells m
+pub step-left : (s : Shape) (q : Step) (cells : Cells) (r : Refusal) (m : ℕ) → answer s q cells ≡ Refused r → act s q m (cells m) ≡ cells m
 unfolding answer act
 step-left s (access a) cells r m h = access-left s a (placeOf (a .frame) (a .width) (a .offset)) cells r m h
 step-left s (wire k level) cells r m h = event-left k m cells wireAnswer (wired level m) r h

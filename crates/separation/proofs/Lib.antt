@@ -4,3 +4,4 @@ pub mod Tables
 pub mod Answered
 pub mod ReadBack
 pub mod Cleared
+pub mod Private
