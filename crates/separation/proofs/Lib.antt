@@ -5,3 +5,4 @@ pub mod Answered
 pub mod ReadBack
 pub mod Cleared
 pub mod Private
+pub mod Witness
