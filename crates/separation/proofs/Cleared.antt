@@ -27,7 +27,7 @@ use Rattle.engine.proofs.Facts.{presence-fits}
 use Rattle.separation.specs.Machine.{Machine, Alike, Item, publics, Agree}
 use Rattle.separation.specs.Steps.{controller, NonSecureStep, PrivateStep}
 use Rattle.separation.proofs.Runs.{alone}
-use Rattle.separation.proofs.Tables.{Same, run-alone}
+use Rattle.separation.proofs.Tables.{Same, run-alone, runs-alike}
 use Rattle.separation.specs.Lent.{presentIntid, secureAt, cleared, withoutSecure, outcomes, finally, Run, AgreeOutcomes}
 
 -- bit m % 32 of a home's presence word is the bit of m
@@ -150,6 +150,10 @@ alike-there s t well =
 pub as-if-none : (s : Shape) (t : Tables) → wellFormed s t ≡ true → (r : List (Item Step)) → Run s t r
     → Run s (withoutSecure s t) (alone (controller s) (publics r)) × Same s t r (withoutSecure s t) (alone (controller s) (publics r))
 as-if-none s t well r k = run-alone s t (withoutSecure s t) well (well-there s t well) (alike-there s t well) r k
+
+-- .. or with that table's own private steps
+pub as-if-none-private : (s : Shape) (t : Tables) → wellFormed s t ≡ true → (r r' : List (Item Step)) → publics r ≡ publics r' → Run s t r → Run s (withoutSecure s t) r' → Same s t r (withoutSecure s t) r'
+as-if-none-private s t well r r' same k k' = runs-alike s t (withoutSecure s t) well (well-there s t well) (alike-there s t well) r r' same k k'
 
 -- There no interrupt is Secure.
 pub none-secure : (s : Shape) (t : Tables) → wellFormed s t ≡ true → (m : ℕ) → secureAt s (withoutSecure s t) m ≡ false

@@ -91,14 +91,19 @@ tables-alike s t u h =
     by m true e = ap₂ (λ (a b : Bool). a && b) (h .presence m) (h .grouping m e)
     by m false e = ap (λ (b : Bool). b && nonSecure (cellOf s t m)) e ∙ sym (ap (λ (b : Bool). b && nonSecure (cellOf s u m)) (sym (h .presence m) ∙ e))
 
+-- two runs with the same Non-secure steps, each with its own private ones
+pub runs-alike : (s : Shape) (t u : Tables) → wellFormed s t ≡ true → wellFormed s u ≡ true → Alike (controller s) (cellOf s t) (cellOf s u) → (r r' : List (Item Step)) → publics r ≡ publics r'
+    → Run s t r → Run s u r' → Same s t r u r'
+unfolding HonestRun
+runs-alike s t u wt wu h r r' same k k' =
+    let x = two-runs (controller s) (λ q c. NonSecureStep c q) (λ q c. PrivateStep s c q) (controller-separate s) r r' (cellOf s t) (cellOf s u) same h (run-honest s r t wt k) (run-honest s r' u wu k') in
+    (rw (run-seen s r t wt, run-seen s r' u wu) (x .0), rw (run-ended s r t wt, run-ended s r' u wu) (x .1))
+
 -- CLAUSE 1: two well-formed sets of tables, alike; the same Non-secure steps; between them each its own private Secure steps:
 -- every Non-secure answer agrees, and every Non-secure record after every step.
 pub same-for-both : (s : Shape) (t u : Tables) → wellFormed s t ≡ true → wellFormed s u ≡ true → AlikeTables s t u → (r r' : List (Item Step)) → publics r ≡ publics r'
-    → Run s t r → Run s u r' → AgreeOutcomes s (outcomes s t r) (outcomes s u r') × Alike (controller s) (cellOf s (finally s t r)) (cellOf s (finally s u r'))
-unfolding HonestRun
-same-for-both s t u wt wu h r r' same k k' =
-    let x = two-runs (controller s) (λ q c. NonSecureStep c q) (λ q c. PrivateStep s c q) (controller-separate s) r r' (cellOf s t) (cellOf s u) same (tables-alike s t u h) (run-honest s r t wt k) (run-honest s r' u wu k') in
-    (rw (run-seen s r t wt, run-seen s r' u wu) (x .0), rw (run-ended s r t wt, run-ended s r' u wu) (x .1))
+    → Run s t r → Run s u r' → Same s t r u r'
+same-for-both s t u wt wu h r r' same k k' = runs-alike s t u wt wu (tables-alike s t u h) r r' same k k'
 
 -- CLAUSE 1, for one step, as its heart: a Non-secure answer depends on the request, the shape, presence, grouping and Non-secure
 -- records, and on nothing else.
