@@ -11,7 +11,7 @@ use Rattle.types.specs.declared.Shape.{Shape}
 use Rattle.types.specs.declared.Family.{Family}
 use Rattle.types.specs.declared.Family.the-variants.{Igroupr, Isenabler, Icenabler, Ispendr, Icpendr, Isactiver, Icactiver, Igrpmodr, Icfgr}
 use Rattle.meaning.specs.Cell.{Cell, get, put, decode, encode, sgi, edgeOf, pending}
-use Rattle.meaning.specs.Rule.{reset, gated, grouping, mayTouch, setting, clearing, retriggered, otherTrigger, fixedField, configured, update, shows, reaches, touched, visible, messageSet, messageCleared, rises, wired, activated, deactivated, act}
+use Rattle.meaning.specs.Rule.{reset, gated, grouping, setter, mayTouch, setting, clearing, retriggered, otherTrigger, fixedField, configured, update, shows, reaches, touched, visible, messageSet, messageCleared, rises, wired, activated, deactivated, act}
 use Rattle.meaning.proofs.Bytes.{digit-back}
 use Rattle.meaning.proofs.Cells.{gated-true, gated-false}
 
@@ -26,17 +26,6 @@ unfolding shows
 pairs m c = record { enable = refl; pend = refl; activity = refl }
 
 -- A written 1 acts, a 0 does nothing: what a set family shows after a write is the old digit or the written one.
-abbrev pub setter : Family → Bool
-setter Igroupr = false
-setter Isenabler = true
-setter Icenabler = false
-setter Ispendr = true
-setter Icpendr = false
-setter Isactiver = true
-setter Icactiver = false
-setter Igrpmodr = false
-setter Icfgr = false
-
 latch-or : (e d l k : Bool) → cond e (d || l) ((d || l) || k) ≡ (d || cond e l (l || k))
 latch-or true d l k = refl
 latch-or false true l k = refl

@@ -19,22 +19,11 @@ use Rattle.types.specs.declared.Answer.{Answer}
 use Rattle.meaning.specs.Cell.{Cell}
 use Rattle.meaning.specs.Layout.{between, spi}
 use Rattle.meaning.specs.Registers.{digitBits, first, count, names}
-use Rattle.meaning.specs.Rule.{gated, isDone, update, reaches, touched, wordWritten, addresses, delivered, messageWritten}
+use Rattle.meaning.specs.Rule.{gated, isDone, setOrClear, update, reaches, touched, wordWritten, addresses, delivered, messageWritten}
 use Rattle.meaning.proofs.Cells.{gated-keeps, gated-both, gated-shut, setting-zero, clearing-zero}
 use Rattle.meaning.proofs.Homes.{between-low, between-high}
 
--- the set and clear families, of which a written 0 does nothing
-abbrev pub setOrClear : Family → Bool
-setOrClear Igroupr = false
-setOrClear Isenabler = true
-setOrClear Icenabler = true
-setOrClear Ispendr = true
-setOrClear Icpendr = true
-setOrClear Isactiver = true
-setOrClear Icactiver = true
-setOrClear Igrpmodr = false
-setOrClear Icfgr = false
-
+-- a written 0 does nothing
 pub zero-quiet : (f : Family) (d m : ℕ) (c : Cell) → setOrClear f ≡ true → eqb d 1 ≡ false → update f d m c ≡ c
 unfolding update
 zero-quiet Igroupr d m c h z = absurd (clash h refl)

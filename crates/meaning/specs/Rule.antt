@@ -60,6 +60,32 @@ unfoldable pub mayTouch : Side → Family → Cell → Bool
 mayTouch Secure f c = true
 mayTouch NonSecure f c = not (grouping f) && sees NonSecure c
 
+-- The set families, and the set and clear families.
+abbrev pub setter : Family → Bool
+setter Igroupr = false
+setter Isenabler = true
+setter Icenabler = false
+setter Ispendr = true
+setter Icpendr = false
+setter Isactiver = true
+setter Icactiver = false
+setter Igrpmodr = false
+setter Icfgr = false
+
+abbrev pub clearer : Family → Bool
+clearer Igroupr = false
+clearer Isenabler = false
+clearer Icenabler = true
+clearer Ispendr = false
+clearer Icpendr = true
+clearer Isactiver = false
+clearer Icactiver = true
+clearer Igrpmodr = false
+clearer Icfgr = false
+
+abbrev pub setOrClear : Family → Bool
+setOrClear f = setter f || clearer f
+
 -- A written 1 sets, or clears; a 0 does nothing.
 unfoldable pub setting : Bit → ℕ → Cell → Cell
 setting b d c = put b (eqb d 1 || get b c) c

@@ -25,13 +25,13 @@ use Rattle.types.specs.declared.Answer.{Answer}
 use Rattle.types.specs.declared.Answer.the-variants.{Done, Refused}
 use Rattle.meaning.specs.Cell.{Cell}
 use Rattle.meaning.specs.Registers.{digitBits, placeOf, writtenValue, first, count, names}
-use Rattle.meaning.specs.Rule.{Step, access, wire, activate, deactivate, reset, grouping, visible, wordWritten, messageWritten, written, accessed, isDone, wireAnswer, activateAnswer, deactivateAnswer, wired, activated, deactivated, act}
+use Rattle.meaning.specs.Rule.{Step, access, wire, activate, deactivate, reset, grouping, setOrClear, visible, wordWritten, messageWritten, written, accessed, isDone, wireAnswer, activateAnswer, deactivateAnswer, wired, activated, deactivated, act}
 use Rattle.meaning.specs.Step.{Cells, wordRead, read, accessAnswer, answer}
 use Rattle.meaning.specs.Sides.{owned, sideOf, secure, writes, groupingAt, regroups}
 use Rattle.meaning.proofs.Cells.{gated-shut}
 use Rattle.meaning.proofs.Rules.{secure-left, secure-unseen, secure-refused}
 use Rattle.meaning.proofs.Kept.{owned-kept}
-use Rattle.meaning.proofs.Quiet.{setOrClear, word-quiet, message-quiet, event-quiet}
+use Rattle.meaning.proofs.Quiet.{word-quiet, message-quiet, event-quiet}
 use Rattle.separation.specs.Machine.{Machine, Alike, Separate}
 use Rattle.separation.specs.Steps.{controller, NonSecureStep, its-access, its-activation, its-deactivation, its-wire, WordOf, word, extended, SecureWrite, PrivateStep, unchanging, no-one, other-message, secure-fields, secure-wire, secure-activation, secure-deactivation}
 

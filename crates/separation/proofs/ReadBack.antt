@@ -24,18 +24,19 @@ use Rattle.types.specs.declared.Decoded.{Decoded}
 use Rattle.types.specs.declared.Decoded.the-variants.{At}
 use Rattle.types.specs.declared.Answer.{Answer}
 use Rattle.types.specs.declared.Answer.the-variants.{Done}
+use Rattle.meaning.specs.Answers.{valueOf}
 use Rattle.meaning.specs.Cell.{Cell, get, put, nonSecure}
 use Rattle.meaning.specs.Layout.{Tables, wellFormed, cellOf}
 use Rattle.meaning.specs.Registers.{digitBits, placeOf, first, count, names, writtenValue}
-use Rattle.meaning.specs.Rule.{Step, access, gated, sees, mayTouch, setting, clearing, update, shows, reaches, touched, visible, wordWritten, written, accessed, act}
+use Rattle.meaning.specs.Rule.{Step, access, gated, setter, sees, mayTouch, setting, clearing, update, shows, reaches, touched, visible, wordWritten, written, accessed, act}
 use Rattle.meaning.specs.Step.{Outcome, Cells, wordRead, read, accessAnswer, answer, tablesAfter, stepped}
 use Rattle.meaning.specs.Sides.{owned}
 use Rattle.meaning.proofs.Cells.{gated-true, gated-false}
-use Rattle.meaning.proofs.Effects.{setter, set-shown, enable-cleared, active-cleared}
+use Rattle.meaning.proofs.Effects.{set-shown, enable-cleared, active-cleared}
 use Rattle.meaning.proofs.Bytes.{digit-back as bit-back}
 use Rattle.meaning.proofs.Homes.{between-in}
 use Rattle.meaning.proofs.After.{cell-after}
-use Rattle.separation.specs.ReadBack.{oldOrOwned, oldAndNot, nonSecureWord}
+use Rattle.separation.specs.ReadBack.{clearsShown, oldOrOwned, oldAndNot, nonSecureWord}
 use Rattle.engine.proofs.Facts.{lengths-fit}
 use Rattle.promises.proofs.Records.{tables-well}
 use Rattle.promises.proofs.Refused.{answer-well, well-kept}
@@ -88,18 +89,7 @@ digit-back f d m c h = by (reaches NonSecure f c) refl
         ∙ sym (ap₂ (λ (o r : Bool). digit ((eqb d 1 && o) || eqb (cond r (shows f m c) 0) 1)) (sym (setter-open f c h) ∙ e) e)))
 
 -- a law of the clear families that show the bit they clear
-abbrev pub clearer : Family → Bool
-clearer Igroupr = false
-clearer Isenabler = false
-clearer Icenabler = true
-clearer Ispendr = false
-clearer Icpendr = false
-clearer Isactiver = false
-clearer Icactiver = true
-clearer Igrpmodr = false
-clearer Icfgr = false
-
-by-clearer : (P : Family → Type 0) → P Icenabler → P Icactiver → (f : Family) → clearer f ≡ true → P f
+by-clearer : (P : Family → Type 0) → P Icenabler → P Icactiver → (f : Family) → clearsShown f ≡ true → P f
 by-clearer P e a Igroupr h = absurd (clash h refl)
 by-clearer P e a Isenabler h = absurd (clash h refl)
 by-clearer P e a Icenabler h = e
@@ -110,11 +100,11 @@ by-clearer P e a Icactiver h = a
 by-clearer P e a Igrpmodr h = absurd (clash h refl)
 by-clearer P e a Icfgr h = absurd (clash h refl)
 
-clear-kept : (f : Family) (d m : ℕ) (c : Cell) → clearer f ≡ true → reaches NonSecure f (update f d m c) ≡ reaches NonSecure f c
+clear-kept : (f : Family) (d m : ℕ) (c : Cell) → clearsShown f ≡ true → reaches NonSecure f (update f d m c) ≡ reaches NonSecure f c
 unfolding reaches mayTouch sees nonSecure update clearing get put
 clear-kept f d m c = by-clearer (λ g. reaches NonSecure g (update g d m c) ≡ reaches NonSecure g c) refl refl f
 
-clear-shown : (f : Family) (d m : ℕ) (c : Cell) → clearer f ≡ true → shows f m (update f d m c) ≡ digit (not (eqb d 1) && eqb (shows f m c) 1)
+clear-shown : (f : Family) (d m : ℕ) (c : Cell) → clearsShown f ≡ true → shows f m (update f d m c) ≡ digit (not (eqb d 1) && eqb (shows f m c) 1)
 unfolding shows
 clear-shown f d m c =
     by-clearer (λ g. shows g m (update g d m c) ≡ digit (not (eqb d 1) && eqb (shows g m c) 1))
@@ -125,7 +115,7 @@ and-of-shut : (b : Bool) → 0 ≡ digit (b && eqb 0 1)
 and-of-shut true = refl
 and-of-shut false = refl
 
-pub digit-cleared : (f : Family) (d m : ℕ) (c : Cell) → clearer f ≡ true → visible NonSecure f m (touched NonSecure f d m c) ≡ digit (not (eqb d 1) && eqb (visible NonSecure f m c) 1)
+pub digit-cleared : (f : Family) (d m : ℕ) (c : Cell) → clearsShown f ≡ true → visible NonSecure f m (touched NonSecure f d m c) ≡ digit (not (eqb d 1) && eqb (visible NonSecure f m c) 1)
 unfolding touched visible
 digit-cleared f d m c h = by (reaches NonSecure f c) refl
   where
@@ -163,7 +153,7 @@ word-after f p v cells =
     let here : (first p + x) - first p ≡ x = omega arith in
     ap (visible NonSecure f (first p + x)) (gated-true (names p (first p + x)) _ _ inside ∙ ap (λ (k : ℕ). touched NonSecure f (digitAt (digitBits f) k v) (first p + x) (cells (first p + x))) here))
 
-word-back : (f : Family) (p : Place) (v : ℕ) (cells : Cells) → setter f ≡ true → wordRead NonSecure f p (λ m. wordWritten NonSecure f p v m (cells m)) ≡ oldOrOwned f p v cells
+word-back : (f : Family) (p : Place) (v : ℕ) (cells : Cells) → setter f ≡ true → wordRead NonSecure f p (λ m. wordWritten NonSecure f p v m (cells m)) ≡ oldOrOwned f p (wordRead NonSecure f p cells) v cells
 unfolding oldOrOwned
 word-back f p v cells h =
     word-after f p v cells
@@ -172,7 +162,7 @@ word-back f p v cells h =
     digit-back f (digitAt (digitBits f) x v) (first p + x) (cells (first p + x)) h
     ∙ ap (λ (z : ℕ). digit ((eqb (digitAt (digitBits f) x v) 1 && owned (cells (first p + x))) || eqb z 1)) (sym (digit-read NonSecure f p cells x l)))
 
-word-cleared : (f : Family) (p : Place) (v : ℕ) (cells : Cells) → clearer f ≡ true → wordRead NonSecure f p (λ m. wordWritten NonSecure f p v m (cells m)) ≡ oldAndNot f p v cells
+word-cleared : (f : Family) (p : Place) (v : ℕ) (cells : Cells) → clearsShown f ≡ true → wordRead NonSecure f p (λ m. wordWritten NonSecure f p v m (cells m)) ≡ oldAndNot f p (wordRead NonSecure f p cells) v
 unfolding oldAndNot
 word-cleared f p v cells h =
     word-after f p v cells
@@ -204,12 +194,33 @@ written-read s t well r f p k o v z e =
         ap (λ (u : Tables). cellOf s u m) (tables-well s (nonSecureWord r Write o v) t well)
         ∙ (cell-after s (nonSecureWord r Write o v) t (lengths-fit s t well) m ∙ after-write s r f p k o v e m (cellOf s t m))
 
--- set enable, pending or active, then read: the old word, or v and the owned bits
-pub read-back : (s : Shape) (t : Tables) → wellFormed s t ≡ true → (r : Frame) (f : Family) (p : Place) → Holds f p → setter f ≡ true → (o v z : ℕ) → placeOf r 4 o ≡ At p
-    → (stepped s (nonSecureWord r Read o z) ((stepped s (nonSecureWord r Write o v) t) .tables)) .answered ≡ Done (oldOrOwned f p v (cellOf s t))
-read-back s t well r f p k h o v z e = written-read s t well r f p k o v z e ∙ ap Done (word-back f p v (cellOf s t) h)
+-- the word before the write, as a read shows it
+first-read : (s : Shape) (t : Tables) → wellFormed s t ≡ true → (r : Frame) (f : Family) (p : Place) → Holds f p → (o y : ℕ) → placeOf r 4 o ≡ At p
+    → (stepped s (nonSecureWord r Read o y) t) .answered ≡ Done (wordRead NonSecure f p (cellOf s t))
+unfolding answer
+first-read s t well r f p k o y e =
+    answer-well s (nonSecureWord r Read o y) t well
+    ∙ (ap (λ (d : Decoded). accessAnswer s (record { frame = r; side = NonSecure; way = Read; width = 4; offset = o; value = y }) d (cellOf s t)) e
+    ∙ ap Done (k .reading s NonSecure (cellOf s t)))
 
--- clear enable or active, then read: the old word, and not v
-pub cleared-back : (s : Shape) (t : Tables) → wellFormed s t ≡ true → (r : Frame) (f : Family) (p : Place) → Holds f p → clearer f ≡ true → (o v z : ℕ) → placeOf r 4 o ≡ At p
-    → (stepped s (nonSecureWord r Read o z) ((stepped s (nonSecureWord r Write o v) t) .tables)) .answered ≡ Done (oldAndNot f p v (cellOf s t))
-cleared-back s t well r f p k h o v z e = written-read s t well r f p k o v z e ∙ ap Done (word-cleared f p v (cellOf s t) h)
+done-value : (a : Answer) (v w : ℕ) → a ≡ Done v → a ≡ Done w → v ≡ w
+done-value a v w h k = ap valueOf (sym h ∙ k)
+
+module _ (s : Shape) (t : Tables) (well : wellFormed s t ≡ true) (r : Frame) (f : Family) (p : Place) (o : ℕ) (there : placeOf r 4 o ≡ At p) (holds : Holds f p) where
+  -- Read, set (enable, pending or active), read: the old word, or v and the owned bits.
+  pub read-back : setter f ≡ true → (old v y z : ℕ) → (stepped s (nonSecureWord r Read o y) t) .answered ≡ Done old
+      → (stepped s (nonSecureWord r Read o z) ((stepped s (nonSecureWord r Write o v) t) .tables)) .answered ≡ Done (oldOrOwned f p old v (cellOf s t))
+  read-back h old v y z was =
+      written-read s t well r f p holds o v z there
+      ∙ ap Done
+      (word-back f p v (cellOf s t) h
+      ∙ ap (λ (w : ℕ). oldOrOwned f p w v (cellOf s t)) (done-value _ (wordRead NonSecure f p (cellOf s t)) old (first-read s t well r f p holds o y there) was))
+
+  -- Read, clear (enable or active), read: the old word, and not v.
+  pub cleared-back : clearsShown f ≡ true → (old v y z : ℕ) → (stepped s (nonSecureWord r Read o y) t) .answered ≡ Done old
+      → (stepped s (nonSecureWord r Read o z) ((stepped s (nonSecureWord r Write o v) t) .tables)) .answered ≡ Done (oldAndNot f p old v)
+  cleared-back h old v y z was =
+      written-read s t well r f p holds o v z there
+      ∙ ap Done
+      (word-cleared f p v (cellOf s t) h
+      ∙ ap (λ (w : ℕ). oldAndNot f p w v) (done-value _ (wordRead NonSecure f p (cellOf s t)) old (first-read s t well r f p holds o y there) was))

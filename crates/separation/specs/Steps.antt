@@ -18,10 +18,9 @@ use Rattle.types.specs.declared.Decoded.the-variants.{At}
 use Rattle.types.specs.declared.Answer.{Answer}
 use Rattle.meaning.specs.Cell.{Cell, nonSecure}
 use Rattle.meaning.specs.Registers.{digitBits, placeOf, writtenValue, first, names}
-use Rattle.meaning.specs.Rule.{Step, access, wire, activate, deactivate, act}
+use Rattle.meaning.specs.Rule.{Step, access, wire, activate, deactivate, setOrClear, act}
 use Rattle.meaning.specs.Step.{Cells, answer}
 use Rattle.meaning.specs.Sides.{owned}
-use Rattle.meaning.proofs.Quiet.{setOrClear}
 use Rattle.separation.specs.Machine.{Machine}
 
 -- the controller, as a machine that acts interrupt by interrupt
