@@ -142,30 +142,20 @@ pub presence-kept : (s : Shape) (q : Step) (m : ℕ) (c : Cell) → (act s q m c
 unfolding presence
 presence-kept s q m c = act-kept presence (λ b h v d. presence-blind .put-kept b v d) s q m c (λ t. presence-blind)
 
-steady-group : (b : Bit) → state b ≡ true → (v : Bool) (c : Cell) → (get Group (put b v c) ≡ get Group c) × (get Modifier (put b v c) ≡ get Modifier c)
-unfolding get put
-steady-group Enabled h v c = (refl, refl)
-steady-group Latch h v c = (refl, refl)
-steady-group Wire h v c = (refl, refl)
-steady-group MessageLevel h v c = (refl, refl)
-steady-group Active h v c = (refl, refl)
-steady-group Edge h v c = (refl, refl)
-steady-group Group h v c = absurd (clash h refl)
-steady-group Modifier h v c = absurd (clash h refl)
-
-pub group-kept : (s : Shape) (q : Step) (m : ℕ) (c : Cell) → regroups q ≡ false → get Group (act s q m c) ≡ get Group c
-group-kept s q m c h = act-kept (get Group) (λ b k v d. steady-group b k v d .0) s q m c (λ t. absurd (clash t h))
-
-pub modifier-kept : (s : Shape) (q : Step) (m : ℕ) (c : Cell) → regroups q ≡ false → get Modifier (act s q m c) ≡ get Modifier c
-modifier-kept s q m c h = act-kept (get Modifier) (λ b k v d. steady-group b k v d .1) s q m c (λ t. absurd (clash t h))
-
--- which side an interrupt is on is told by its two grouping bits
-grouped : (c d : Cell) → get Group c ≡ get Group d → get Modifier c ≡ get Modifier d → nonSecure c ≡ nonSecure d
-unfolding get nonSecure
-grouped c d h k = ap₂ (λ (a b : Bool). a && not b) h k
+-- which side an interrupt is on is told by its two grouping bits, whatever it is that they tell
+steady-side : (b : Bit) → state b ≡ true → (v : Bool) (c : Cell) → nonSecure (put b v c) ≡ nonSecure c
+unfolding nonSecure put
+steady-side Enabled h v c = refl
+steady-side Latch h v c = refl
+steady-side Wire h v c = refl
+steady-side MessageLevel h v c = refl
+steady-side Active h v c = refl
+steady-side Edge h v c = refl
+steady-side Group h v c = absurd (clash h refl)
+steady-side Modifier h v c = absurd (clash h refl)
 
 pub side-kept : (s : Shape) (q : Step) (m : ℕ) (c : Cell) → regroups q ≡ false → nonSecure (act s q m c) ≡ nonSecure c
-side-kept s q m c h = grouped (act s q m c) c (group-kept s q m c h) (modifier-kept s q m c h)
+side-kept s q m c h = act-kept nonSecure steady-side s q m c (λ t. absurd (clash t h))
 
 pub owned-kept : (s : Shape) (q : Step) (m : ℕ) (c : Cell) → regroups q ≡ false → owned (act s q m c) ≡ owned c
 unfolding owned
