@@ -21,7 +21,6 @@ use types::Shape;
 use types::Side;
 use types::Way;
 
-pub mod answer;
 mod place;
 
 // A read or a write at an offset of a frame.

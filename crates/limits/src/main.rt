@@ -201,8 +201,8 @@ fn number(label: &[u8], n: u32) {
 }
 
 fn show(answer: Answer) {
-    number(b" status=", controller::answer::status_of(answer));
-    number(b" value=", controller::answer::value_of(answer));
+    number(b" status=", answers::status_of(answer));
+    number(b" value=", answers::value_of(answer));
     io::write_all(1, b"\n");
 }
 

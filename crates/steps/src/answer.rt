@@ -2,49 +2,15 @@
 ghost use mathlib.Core.Path.{_≡_};
 ghost use Prim.Native.Nat.{_+_, _≤_};
 ghost use lib.ListN.{length};
-ghost use Rattle.meaning.specs.Answers.{number, statusOf, valueOf};
 ghost use Rattle.text.specs.Sheet.{Put};
 ghost use Rattle.script.specs.Run.{lineNumber, badText, stepText};
 ghost use Rattle.script.specs.Replay.{ending};
+use answers::status_of;
+use answers::value_of;
 use keys::rank;
 use script::Progress;
 use text::write::put_line;
 use types::Answer;
-use types::Refusal;
-
-fn number_of(r: Refusal) -> u32
-    ensures { λ n. ⌜ n ≡ number r ⌝ }
-{
-    match r {
-        Refusal::Shape => 1,
-        Refusal::Width => 2,
-        Refusal::Alignment => 3,
-        Refusal::Offset => 4,
-        Refusal::Unlisted => 5,
-        Refusal::Narrow => 6,
-        Refusal::Intid => 7,
-        Refusal::SgiWire => 8,
-        Refusal::State => 9,
-    }
-}
-
-fn status_of(a: Answer) -> u32
-    ensures { λ n. ⌜ n ≡ statusOf a ⌝ }
-{
-    match a {
-        Answer::Done(_) => 0,
-        Answer::Refused(r) => number_of(r),
-    }
-}
-
-fn value_of(a: Answer) -> u32
-    ensures { λ n. ⌜ n ≡ valueOf a ⌝ }
-{
-    match a {
-        Answer::Done(v) => v,
-        Answer::Refused(_) => 0,
-    }
-}
 
 // step=, status=, value=
 pub fn put_step(out: &mut [u8], end: usize, n: u32, a: Answer) -> usize
