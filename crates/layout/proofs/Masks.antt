@@ -69,9 +69,6 @@ eppi-mask s t f n v high x l =
     ∙ (sym (implemented-eppi s t (bankOf f n) (halfOf f n + x) (high-bank f n high) (redist-bank f n v) (digit-room f n x l))
     ∙ ap (implemented s t) (let e = split f n x in omega arith))
 
-absurd-low : {n : ℕ} {A : Type 0} → n < 0 → A
-absurd-low h = absurd (omega arith)
-
 pub mask-bit : (s : Shape) → shapeFits s ≡ true → (t : Tables) (p : Place) → valid p ≡ true → (x : ℕ) → x < endOf p - startOf p
     → bitAt (maskOf s t p) x ≡ implemented s t (first p + x)
 unfolding valid startOf endOf first

@@ -197,10 +197,7 @@ missed (Extended Redist f n) v k l =
 missed Typer v k l = redist-missed Typer (λ m q. absurd (let a = q .0 in let b = q .1 in omega arith)) k l
 missed (Message g) v k l = redist-missed (Message g) (λ m q. absurd (let a = q .0 in let b = q .1 in omega arith)) k l
 
--- a word's digits fit its 32 bits, and its INTIDs are small
-count-fits : (f : Family) → perWord f * digitBits f ≤ 32
-count-fits f = by-kind (λ b p d r. p * b ≤ 32) (omega arith) (omega arith) f
-
+-- a word's INTIDs are small
 cond-le : (b : Bool) (n : ℕ) → cond b 0 n ≤ n
 cond-le true n = omega arith
 cond-le false n = omega arith
