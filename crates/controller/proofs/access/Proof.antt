@@ -19,7 +19,9 @@ same-length-2 : tie.Need-same-length-2
 same-length-2 c = search needs
 
 returns : tie.Need-returns
-returns c = ill (c .before .before .before .before .before .before .before .before .args .shape) (access (c .before .before .before .before .before .before .before .before .args .request)) (lent (now (c .before .before .before .before .before .before .before .before .args .dist)) (now (c .before .before .before .before .before .before .before .before .args .redist)) (now (c .before .before .before .before .before .before .before .before .args .dist-presence)) (now (c .before .before .before .before .before .before .before .before .args .redist-presence))) (sym (c .before .well-formed .ensures) ∙ not-true (c .before .well-formed .result) (c .if1 .taken))
+returns c =
+    let a = c .before .before .before .before .before .before .before .before .args in
+    ill (a .shape) (access (a .request)) (lent (now (a .dist)) (now (a .redist)) (now (a .dist-presence)) (now (a .redist-presence))) (sym (c .before .well-formed .ensures) ∙ not-true (c .before .well-formed .result) (c .if1 .taken))
 
 place-of-requires : tie.Need-place-of-requires
 place-of-requires c κs = search needs
@@ -40,13 +42,18 @@ same-length-4 : tie.Need-same-length-4
 same-length-4 c = search needs
 
 returns-2 : tie.Need-returns-2
-returns-2 c = rw (c .refused .ensures _ (c .before .enum-told .given .1)) (well (c .before .before .before .before .before .before .before .before .before .before .before .before .args .shape) (access (c .before .before .before .before .before .before .before .before .before .before .before .before .args .request)) (lent (now (c .before .before .before .before .before .before .before .before .before .before .before .before .args .dist)) (now (c .before .before .before .before .before .before .before .before .before .before .before .before .args .redist)) (now (c .before .before .before .before .before .before .before .before .before .before .before .before .args .dist-presence)) (now (c .before .before .before .before .before .before .before .before .before .before .before .before .args .redist-presence))) (sym (c .before .before .before .before .before .well-formed .ensures) ∙ not-false (c .before .before .before .before .before .well-formed .result) (c .before .before .before .before .if1 .left)) _ _ _ (access-refused (c .before .before .before .before .before .before .before .before .before .before .before .before .args .shape) (lent (now (c .before .before .before .before .before .before .before .before .before .before .before .before .args .dist)) (now (c .before .before .before .before .before .before .before .before .before .before .before .before .args .redist)) (now (c .before .before .before .before .before .before .before .before .before .before .before .before .args .dist-presence)) (now (c .before .before .before .before .before .before .before .before .before .before .before .before .args .redist-presence))) (λ k. c .before .before .before .before .before .before .before .before .before .before .before .slice-known .given k .fits) (λ k. c .before .before .before .before .before .before .before .before .before .before .slice-known2 .given k .fits) (c .before .before .before .before .before .before .before .before .before .before .before .before .args .request) _ (sym (c .before .before .before .place-of .ensures) ∙ c .before .enum-told .given .1)))
+returns-2 c =
+    let a = c .before .before .before .before .before .before .before .before .before .before .before .before .args in
+    let b = c .before .before .before .before .before in
+    rw (c .refused .ensures _ (c .before .enum-told .given .1)) (well (a .shape) (access (a .request)) (lent (now (a .dist)) (now (a .redist)) (now (a .dist-presence)) (now (a .redist-presence))) (sym (b .well-formed .ensures) ∙ not-false (b .well-formed .result) (c .before .before .before .before .if1 .left)) _ _ _ (access-refused (a .shape) (lent (now (a .dist)) (now (a .redist)) (now (a .dist-presence)) (now (a .redist-presence))) (λ k. c .before .before .before .before .before .before .before .before .before .before .before .slice-known .given k .fits) (λ k. c .before .before .before .before .before .before .before .before .before .before .slice-known2 .given k .fits) (a .request) _ (sym (c .before .before .before .place-of .ensures) ∙ c .before .enum-told .given .1)))
 
 enum-told-2 : tie.Need-enum-told-2
 enum-told-2 c = search needs
 
 read-requires : tie.Need-read-requires
-read-requires c κs = ((sym (c .before .before .before .before .before .before .before .before .before .well-formed .ensures) ∙ not-false (c .before .before .before .before .before .before .before .before .before .well-formed .result) (c .before .before .before .before .before .before .before .before .if1 .left)), valid-place _ _ _ _ (sym (c .before .before .before .before .before .before .before .place-of .ensures) ∙ c .before .before .before .before .before .found .given .1))
+read-requires c κs =
+    let b = c .before .before .before .before .before .before .before .before .before in
+    ((sym (b .well-formed .ensures) ∙ not-false (b .well-formed .result) (c .before .before .before .before .before .before .before .before .if1 .left)), valid-place _ _ _ _ (sym (c .before .before .before .before .before .before .before .place-of .ensures) ∙ c .before .before .before .before .before .found .given .1))
 
 enum-told-3 : tie.Need-enum-told-3
 enum-told-3 c = search needs
@@ -55,7 +62,9 @@ value-of-requires : tie.Need-value-of-requires
 value-of-requires c κs = search needs
 
 write-requires : tie.Need-write-requires
-write-requires c κs = ((sym (c .before .before .before .before .before .before .before .before .before .before .well-formed .ensures) ∙ not-false (c .before .before .before .before .before .before .before .before .before .before .well-formed .result) (c .before .before .before .before .before .before .before .before .before .if1 .left)), valid-place _ _ _ _ (sym (c .before .before .before .before .before .before .before .before .place-of .ensures) ∙ c .before .before .before .before .before .before .found .given .1))
+write-requires c κs =
+    let b = c .before .before .before .before .before .before .before .before .before .before in
+    ((sym (b .well-formed .ensures) ∙ not-false (b .well-formed .result) (c .before .before .before .before .before .before .before .before .before .if1 .left)), valid-place _ _ _ _ (sym (c .before .before .before .before .before .before .before .before .place-of .ensures) ∙ c .before .before .before .before .before .before .found .given .1))
 
 same-length-5 : tie.Need-same-length-5
 same-length-5 c = search needs
@@ -64,7 +73,10 @@ same-length-6 : tie.Need-same-length-6
 same-length-6 c = search needs
 
 returns-3 : tie.Need-returns-3
-returns-3 c = well (c .before .before .before .before .before .before .before .before .before .before .before .before .before .before .before .before .before .args .shape) (access (c .before .before .before .before .before .before .before .before .before .before .before .before .before .before .before .before .before .args .request)) (lent (now (c .before .before .before .before .before .before .before .before .before .before .before .before .before .before .before .before .before .args .dist)) (now (c .before .before .before .before .before .before .before .before .before .before .before .before .before .before .before .before .before .args .redist)) (now (c .before .before .before .before .before .before .before .before .before .before .before .before .before .before .before .before .before .args .dist-presence)) (now (c .before .before .before .before .before .before .before .before .before .before .before .before .before .before .before .before .before .args .redist-presence))) (sym (c .before .before .before .before .before .before .before .before .before .before .well-formed .ensures) ∙ not-false (c .before .before .before .before .before .before .before .before .before .before .well-formed .result) (c .before .before .before .before .before .before .before .before .before .if1 .left)) _ _ _ (access-read (c .before .before .before .before .before .before .before .before .before .before .before .before .before .before .before .before .before .args .shape) (lent (now (c .before .before .before .before .before .before .before .before .before .before .before .before .before .before .before .before .before .args .dist)) (now (c .before .before .before .before .before .before .before .before .before .before .before .before .before .before .before .before .before .args .redist)) (now (c .before .before .before .before .before .before .before .before .before .before .before .before .before .before .before .before .before .args .dist-presence)) (now (c .before .before .before .before .before .before .before .before .before .before .before .before .before .before .before .before .before .args .redist-presence))) (λ k. c .before .before .before .before .before .before .before .before .before .before .before .before .before .before .before .before .slice-known .given k .fits) (λ k. c .before .before .before .before .before .before .before .before .before .before .before .before .before .before .before .slice-known2 .given k .fits) (c .before .before .before .before .before .before .before .before .before .before .before .before .before .before .before .before .before .args .request) _ _ (sym (c .before .before .before .before .before .before .before .before .place-of .ensures) ∙ c .before .before .before .before .before .before .found .given .1) (c .before .before .before .enum-told2 .given .1) (c .read .ensures))
+returns-3 c =
+    let a = c .before .before .before .before .before .before .before .before .before .before .before .before .before .before .before .before .before .args in
+    let b = c .before .before .before .before .before .before .before .before .before .before in
+    well (a .shape) (access (a .request)) (lent (now (a .dist)) (now (a .redist)) (now (a .dist-presence)) (now (a .redist-presence))) (sym (b .well-formed .ensures) ∙ not-false (b .well-formed .result) (c .before .before .before .before .before .before .before .before .before .if1 .left)) _ _ _ (access-read (a .shape) (lent (now (a .dist)) (now (a .redist)) (now (a .dist-presence)) (now (a .redist-presence))) (λ k. c .before .before .before .before .before .before .before .before .before .before .before .before .before .before .before .before .slice-known .given k .fits) (λ k. c .before .before .before .before .before .before .before .before .before .before .before .before .before .before .before .slice-known2 .given k .fits) (a .request) _ _ (sym (c .before .before .before .before .before .before .before .before .place-of .ensures) ∙ c .before .before .before .before .before .before .found .given .1) (c .before .before .before .enum-told2 .given .1) (c .read .ensures))
 
 same-length-7 : tie.Need-same-length-7
 same-length-7 c = search needs
@@ -73,7 +85,10 @@ same-length-8 : tie.Need-same-length-8
 same-length-8 c = search needs
 
 returns-4 : tie.Need-returns-4
-returns-4 c = well (c .before .before .before .before .before .before .before .before .before .before .before .before .before .before .before .before .before .before .before .before .before .before .args .shape) (access (c .before .before .before .before .before .before .before .before .before .before .before .before .before .before .before .before .before .before .before .before .before .before .args .request)) (lent (now (c .before .before .before .before .before .before .before .before .before .before .before .before .before .before .before .before .before .before .before .before .before .before .args .dist)) (now (c .before .before .before .before .before .before .before .before .before .before .before .before .before .before .before .before .before .before .before .before .before .before .args .redist)) (now (c .before .before .before .before .before .before .before .before .before .before .before .before .before .before .before .before .before .before .before .before .before .before .args .dist-presence)) (now (c .before .before .before .before .before .before .before .before .before .before .before .before .before .before .before .before .before .before .before .before .before .before .args .redist-presence))) (sym (c .before .before .before .before .before .before .before .before .before .before .before .before .before .before .before .well-formed .ensures) ∙ not-false (c .before .before .before .before .before .before .before .before .before .before .before .before .before .before .before .well-formed .result) (c .before .before .before .before .before .before .before .before .before .before .before .before .before .before .if1 .left)) _ _ _ (access-write (c .before .before .before .before .before .before .before .before .before .before .before .before .before .before .before .before .before .before .before .before .before .before .args .shape) (lent (now (c .before .before .before .before .before .before .before .before .before .before .before .before .before .before .before .before .before .before .before .before .before .before .args .dist)) (now (c .before .before .before .before .before .before .before .before .before .before .before .before .before .before .before .before .before .before .before .before .before .before .args .redist)) (now (c .before .before .before .before .before .before .before .before .before .before .before .before .before .before .before .before .before .before .before .before .before .before .args .dist-presence)) (now (c .before .before .before .before .before .before .before .before .before .before .before .before .before .before .before .before .before .before .before .before .before .before .args .redist-presence))) (λ k. c .before .before .before .before .before .before .before .before .before .before .before .before .before .before .before .before .before .before .before .before .before .slice-known .given k .fits) (λ k. c .before .before .before .before .before .before .before .before .before .before .before .before .before .before .before .before .before .before .before .before .slice-known2 .given k .fits) (c .before .before .before .before .before .before .before .before .before .before .before .before .before .before .before .before .before .before .before .before .before .before .args .request) _ _ _ (sym (c .before .before .before .before .before .before .before .before .before .before .before .before .before .place-of .ensures) ∙ c .before .before .before .before .before .before .before .before .before .before .before .found .given .1) (c .before .before .before .before .before .before .before .before .enum-told3 .given .1) (rw (c .before .before .before .before .before .before .before .value-of .ensures) at (c .before .before .before .before .write .ensures)))
+returns-4 c =
+    let a = c .before .before .before .before .before .before .before .before .before .before .before .before .before .before .before .before .before .before .before .before .before .before .args in
+    let b = c .before .before .before .before .before .before .before .before .before .before .before .before .before .before .before in
+    well (a .shape) (access (a .request)) (lent (now (a .dist)) (now (a .redist)) (now (a .dist-presence)) (now (a .redist-presence))) (sym (b .well-formed .ensures) ∙ not-false (b .well-formed .result) (c .before .before .before .before .before .before .before .before .before .before .before .before .before .before .if1 .left)) _ _ _ (access-write (a .shape) (lent (now (a .dist)) (now (a .redist)) (now (a .dist-presence)) (now (a .redist-presence))) (λ k. c .before .before .before .before .before .before .before .before .before .before .before .before .before .before .before .before .before .before .before .before .before .slice-known .given k .fits) (λ k. c .before .before .before .before .before .before .before .before .before .before .before .before .before .before .before .before .before .before .before .before .slice-known2 .given k .fits) (a .request) _ _ _ (sym (c .before .before .before .before .before .before .before .before .before .before .before .before .before .place-of .ensures) ∙ c .before .before .before .before .before .before .before .before .before .before .before .found .given .1) (c .before .before .before .before .before .before .before .before .enum-told3 .given .1) (rw (c .before .before .before .before .before .before .before .value-of .ensures) at (c .before .before .before .before .write .ensures)))
 
 pub access-spec : {M : Type 1} → statement M
 access-spec =

@@ -18,7 +18,9 @@ same-length-2 : tie.Need-same-length-2
 same-length-2 c = search needs
 
 returns : tie.Need-returns
-returns c = ill (c .before .before .before .before .before .before .before .before .args .shape) (wire (c .before .before .before .before .before .before .before .before .args .intid) (c .before .before .before .before .before .before .before .before .args .level)) (lent (now (c .before .before .before .before .before .before .before .before .args .dist)) (now (c .before .before .before .before .before .before .before .before .args .redist)) (now (c .before .before .before .before .before .before .before .before .args .dist-presence)) (now (c .before .before .before .before .before .before .before .before .args .redist-presence))) (sym (c .before .well-formed .ensures) ∙ not-true (c .before .well-formed .result) (c .if1 .taken))
+returns c =
+    let a = c .before .before .before .before .before .before .before .before .args in
+    ill (a .shape) (wire (a .intid) (a .level)) (lent (now (a .dist)) (now (a .redist)) (now (a .dist-presence)) (now (a .redist-presence))) (sym (c .before .well-formed .ensures) ∙ not-true (c .before .well-formed .result) (c .if1 .taken))
 
 happen-requires : tie.Need-happen-requires
 happen-requires c κs = (sym (c .before .before .before .well-formed .ensures) ∙ not-false (c .before .before .before .well-formed .result) (c .before .before .if1 .left))
@@ -30,7 +32,10 @@ same-length-4 : tie.Need-same-length-4
 same-length-4 c = search needs
 
 returns-2 : tie.Need-returns-2
-returns-2 c = well (c .before .before .before .before .before .before .before .before .before .before .before .before .before .before .before .args .shape) (wire (c .before .before .before .before .before .before .before .before .before .before .before .before .before .before .before .args .intid) (c .before .before .before .before .before .before .before .before .before .before .before .before .before .before .before .args .level)) (lent (now (c .before .before .before .before .before .before .before .before .before .before .before .before .before .before .before .args .dist)) (now (c .before .before .before .before .before .before .before .before .before .before .before .before .before .before .before .args .redist)) (now (c .before .before .before .before .before .before .before .before .before .before .before .before .before .before .before .args .dist-presence)) (now (c .before .before .before .before .before .before .before .before .before .before .before .before .before .before .before .args .redist-presence))) (sym (c .before .before .before .before .before .before .before .before .well-formed .ensures) ∙ not-false (c .before .before .before .before .before .before .before .before .well-formed .result) (c .before .before .before .before .before .before .before .if1 .left)) _ _ _ (c .before .before .before .before .happen .ensures)
+returns-2 c =
+    let a = c .before .before .before .before .before .before .before .before .before .before .before .before .before .before .before .args in
+    let b = c .before .before .before .before .before .before .before .before in
+    well (a .shape) (wire (a .intid) (a .level)) (lent (now (a .dist)) (now (a .redist)) (now (a .dist-presence)) (now (a .redist-presence))) (sym (b .well-formed .ensures) ∙ not-false (b .well-formed .result) (c .before .before .before .before .before .before .before .if1 .left)) _ _ _ (c .before .before .before .before .happen .ensures)
 
 pub wire-spec : {M : Type 1} → statement M
 wire-spec =

@@ -37,7 +37,10 @@ at-most-requires c κs = search needs
 
 returns-2 : tie.Need-returns-2
 unfolding numberAt
-returns-2 c = rw (← (c .before .before .before .before .begins .ensures), not-false (c .before .before .before .before .begins .result) (c .before .before .before .if1 .left)) (c .at-most .ensures ∙ ap (λ (n : Number). atMost (c .before .before .before .before .before .before .before .args .most) n) (c .before .number .ensures ∙ ap numberIn (take-all (length (now (c .before .before .before .before .before .before .before .args .line)) - length (now (c .before .before .before .before .before .before .before .args .key))) (drop (length (now (c .before .before .before .before .before .before .before .args .key))) (now (c .before .before .before .before .before .before .before .args .line))) (simp length-drop (omega arith)))))
+returns-2 c =
+    let a = c .before .before .before .before .before .before .before .args in
+    let b = c .before .before .before .before in
+    rw (← (b .begins .ensures), not-false (b .begins .result) (c .before .before .before .if1 .left)) (c .at-most .ensures ∙ ap (λ (n : Number). atMost (a .most) n) (c .before .number .ensures ∙ ap numberIn (take-all (length (now (a .line)) - length (now (a .key))) (drop (length (now (a .key))) (now (a .line))) (simp length-drop (omega arith)))))
 
 pub number-at-spec : {M : Type 1} → statement M
 number-at-spec =

@@ -27,10 +27,16 @@ returns : tie.Need-returns
 returns c = search needs
 
 array-share-prefix-out : tie.Need-array-share-prefix-out
-array-share-prefix-out c = said-fits _ (c .before .before .before .before .before .before .buffer .result) (ending (c .before .before .before .before .before .before .before .before .args .s .at) (take (c .before .before .before .before .before .before .before .before .args .s .len) (now (c .before .before .before .before .before .before .before .before .args .line)))) _ (sym (c .before .ended .given .1) ∙ c .before .before .before .before .finish .ensures .0) (c .before .before .before .before .finish .ensures .1)
+array-share-prefix-out c =
+    let a = c .before .before .before .before .before .before .before .before .args in
+    let b = c .before .before .before .before in
+    said-fits _ (c .before .before .before .before .before .before .buffer .result) (ending (a .s .at) (take (a .s .len) (now (a .line)))) _ (sym (c .before .ended .given .1) ∙ b .finish .ensures .0) (b .finish .ensures .1)
 
 slice-aggregate-write-all : tie.Need-slice-aggregate-write-all
-slice-aggregate-write-all c = let h = said-fits _ (c .before .before .before .before .before .before .before .buffer .result) (ending (c .before .before .before .before .before .before .before .before .before .args .s .at) (take (c .before .before .before .before .before .before .before .before .before .args .s .len) (now (c .before .before .before .before .before .before .before .before .before .args .line)))) _ (sym (c .before .before .ended .given .1) ∙ c .before .before .before .before .before .finish .ensures .0) (c .before .before .before .before .before .finish .ensures .1) in simp length-take (omega arith)
+slice-aggregate-write-all c =
+    let a = c .before .before .before .before .before .before .before .before .before .args in
+    let b = c .before .before .before .before .before in
+    let h = said-fits _ (c .before .before .before .before .before .before .before .buffer .result) (ending (a .s .at) (take (a .s .len) (now (a .line)))) _ (sym (c .before .before .ended .given .1) ∙ b .finish .ensures .0) (b .finish .ensures .1) in simp length-take (omega arith)
 
 write-all-requires : tie.Need-write-all-requires
 write-all-requires c κs = search needs

@@ -23,7 +23,9 @@ enum-told : tie.Need-enum-told
 enum-told c = search needs
 
 typer-of-requires : tie.Need-typer-of-requires
-typer-of-requires c κs = shape-fits (c .before .before .before .before .before .before .args .shape) (lent (now (c .before .before .before .before .before .before .args .dist)) (now (c .before .before .before .before .before .before .args .redist)) (now (c .before .before .before .before .before .before .args .dist-presence)) (now (c .before .before .before .before .before .before .args .redist-presence))) (c .before .before .before .before .before .before .pre .0)
+typer-of-requires c κs =
+    let a = c .before .before .before .before .before .before .args in
+    shape-fits (a .shape) (lent (now (a .dist)) (now (a .redist)) (now (a .dist-presence)) (now (a .redist-presence))) (c .before .before .before .before .before .before .pre .0)
 
 enum-told-2 : tie.Need-enum-told-2
 enum-told-2 c = search needs

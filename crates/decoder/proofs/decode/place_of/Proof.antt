@@ -35,7 +35,9 @@ narrowed-requires c κs = search needs
 
 returns-4 : tie.Need-returns-4
 unfolding placeOf
-returns-4 c = rw (c .before .before .before .before .if1 .left, eq-eqb _ _ (c .before .before .before .if2 .left), le-ltb _ _ (c .before .before .if3 .left)) (c .narrowed .ensures ∙ ap (λ (d : Decoded). narrow (c .before .before .before .before .before .args .width) (c .before .before .before .before .before .args .offset % 4) d) (c .before .listed-at .ensures))
+returns-4 c =
+    let a = c .before .before .before .before .before .args in
+    rw (c .before .before .before .before .if1 .left, eq-eqb _ _ (c .before .before .before .if2 .left), le-ltb _ _ (c .before .before .if3 .left)) (c .narrowed .ensures ∙ ap (λ (d : Decoded). narrow (a .width) (a .offset % 4) d) (c .before .listed-at .ensures))
 
 pub place-of-spec : {M : Type 1} → statement M
 place-of-spec =

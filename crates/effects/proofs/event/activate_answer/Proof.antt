@@ -22,11 +22,15 @@ has-requires-2 c κs = search needs
 
 returns-2 : tie.Need-returns-2
 unfolding activateAnswer decode get
-returns-2 c = rw (← (c .before .before .before .before .before .side-sees .ensures (c .before .before .before .before .before .before .args .implemented)), c .before .before .before .before .if1 .left, ← (c .before .before .is-pending .ensures (c .before .before .before .before .before .before .args .implemented)), ← (c .before .before .before .has .ensures (c .before .before .before .before .before .before .args .implemented)), ← (c .before .has2 .ensures (c .before .before .before .before .before .before .args .implemented)), c .if2 .taken)
+returns-2 c =
+    let a = c .before .before .before .before .before .before .args in
+    rw (← (c .before .before .before .before .before .side-sees .ensures (a .implemented)), c .before .before .before .before .if1 .left, ← (c .before .before .is-pending .ensures (a .implemented)), ← (c .before .before .before .has .ensures (a .implemented)), ← (c .before .has2 .ensures (a .implemented)), c .if2 .taken)
 
 returns-3 : tie.Need-returns-3
 unfolding activateAnswer decode get
-returns-3 c = rw (← (c .before .before .before .before .before .side-sees .ensures (c .before .before .before .before .before .before .args .implemented)), c .before .before .before .before .if1 .left, ← (c .before .before .is-pending .ensures (c .before .before .before .before .before .before .args .implemented)), ← (c .before .before .before .has .ensures (c .before .before .before .before .before .before .args .implemented)), ← (c .before .has2 .ensures (c .before .before .before .before .before .before .args .implemented)), c .if2 .left)
+returns-3 c =
+    let a = c .before .before .before .before .before .before .args in
+    rw (← (c .before .before .before .before .before .side-sees .ensures (a .implemented)), c .before .before .before .before .if1 .left, ← (c .before .before .is-pending .ensures (a .implemented)), ← (c .before .before .before .has .ensures (a .implemented)), ← (c .before .has2 .ensures (a .implemented)), c .if2 .left)
 
 pub activate-answer-spec : {M : Type 1} → statement M
 activate-answer-spec =

@@ -20,7 +20,9 @@ enum-told-2 : tie.Need-enum-told-2
 enum-told-2 c = search needs
 
 returns : tie.Need-returns
-returns c = (c .before .before .answer-to .ensures, refused-at (c .before .before .before .before .before .args .event) (c .before .before .before .before .before .args .m) (c .before .before .before .before .before .args .slot) (now (c .before .before .before .before .before .args .records)) _ (c .before .before .before .before .slice-known .given (c .before .before .before .before .before .args .slot) .fits) (sym (c .before .before .answer-to .ensures) ∙ c .enum-told2 .given .1))
+returns c =
+    let a = c .before .before .before .before .before .args in
+    (c .before .before .answer-to .ensures, refused-at (a .event) (a .m) (a .slot) (now (a .records)) _ (c .before .before .before .before .slice-known .given (a .slot) .fits) (sym (c .before .before .answer-to .ensures) ∙ c .enum-told2 .given .1))
 
 effect-of-requires : tie.Need-effect-of-requires
 effect-of-requires c κs = search needs
@@ -32,7 +34,10 @@ same-length : tie.Need-same-length
 same-length c = search needs
 
 returns-2 : tie.Need-returns-2
-returns-2 c = (c .before .before .before .answer-to .ensures, done-at (c .before .before .before .before .before .before .args .event) (c .before .before .before .before .before .before .args .m) (c .before .before .before .before .before .before .args .slot) (now (c .before .before .before .before .before .before .args .records)) _ (c .effect-of .result) (sym (c .before .before .before .answer-to .ensures) ∙ c .before .enum-told .given .1) (c .effect-of .ensures true))
+returns-2 c =
+    let a = c .before .before .before .before .before .before .args in
+    let b = c .before .before .before in
+    (b .answer-to .ensures, done-at (a .event) (a .m) (a .slot) (now (a .records)) _ (c .effect-of .result) (sym (b .answer-to .ensures) ∙ c .before .enum-told .given .1) (c .effect-of .ensures true))
 
 pub happen-at-spec : {M : Type 1} → statement M
 happen-at-spec =

@@ -15,10 +15,14 @@ use Rattle.engine.proofs.message.send.Statement.{statement}
 use Rattle.engine.proofs.message.send.Tie as tie
 
 returns : tie.Need-returns
-returns c = message-off (c .before .before .before .before .before .before .args .shape) (lent (now (c .before .before .before .before .before .before .args .dist)) (now (c .before .before .before .before .before .before .args .redist)) (now (c .before .before .before .before .before .before .args .dist-presence)) (now (c .before .before .before .before .before .before .args .redist-presence))) (λ k. c .before .before .before .before .before .slice-known .given k .fits) (λ k. c .before .before .before .before .slice-known2 .given k .fits) (c .before .before .before .before .before .before .args .side) (c .before .before .before .before .before .before .args .message) (c .before .before .before .before .before .before .args .value) (not-true (c .before .before .before .before .before .before .args .shape .mbis) (c .if1 .taken))
+returns c =
+    let a = c .before .before .before .before .before .before .args in
+    message-off (a .shape) (lent (now (a .dist)) (now (a .redist)) (now (a .dist-presence)) (now (a .redist-presence))) (λ k. c .before .before .before .before .before .slice-known .given k .fits) (λ k. c .before .before .before .before .slice-known2 .given k .fits) (a .side) (a .message) (a .value) (not-true (a .shape .mbis) (c .if1 .taken))
 
 locate-requires : tie.Need-locate-requires
-locate-requires c κs = presence-fits (c .before .before .before .before .before .before .args .shape) (lent (now (c .before .before .before .before .before .before .args .dist)) (now (c .before .before .before .before .before .before .args .redist)) (now (c .before .before .before .before .before .before .args .dist-presence)) (now (c .before .before .before .before .before .before .args .redist-presence))) (c .before .before .before .before .before .before .pre)
+locate-requires c κs =
+    let a = c .before .before .before .before .before .before .args in
+    presence-fits (a .shape) (lent (now (a .dist)) (now (a .redist)) (now (a .dist-presence)) (now (a .redist-presence))) (c .before .before .before .before .before .before .pre)
 
 enum-known-home : tie.Need-enum-known-home
 enum-known-home c = search needs
@@ -27,7 +31,9 @@ enum-told : tie.Need-enum-told
 enum-told c = search needs
 
 returns-2 : tie.Need-returns-2
-returns-2 c = message-missing (c .before .before .before .before .before .before .before .before .before .args .shape) (lent (now (c .before .before .before .before .before .before .before .before .before .args .dist)) (now (c .before .before .before .before .before .before .before .before .before .args .redist)) (now (c .before .before .before .before .before .before .before .before .before .args .dist-presence)) (now (c .before .before .before .before .before .before .before .before .before .args .redist-presence))) (λ k. c .before .before .before .before .before .before .before .before .slice-known .given k .fits) (λ k. c .before .before .before .before .before .before .before .slice-known2 .given k .fits) (c .before .before .before .before .before .before .before .before .before .args .side) (c .before .before .before .before .before .before .before .before .before .args .message) (c .before .before .before .before .before .before .before .before .before .args .value) (not-located (c .before .before .before .before .before .before .before .before .before .args .shape) (lent (now (c .before .before .before .before .before .before .before .before .before .args .dist)) (now (c .before .before .before .before .before .before .before .before .before .args .redist)) (now (c .before .before .before .before .before .before .before .before .before .args .dist-presence)) (now (c .before .before .before .before .before .before .before .before .before .args .redist-presence))) _ (sym (c .before .before .locate .ensures) ∙ c .enum-told .given .1))
+returns-2 c =
+    let a = c .before .before .before .before .before .before .before .before .before .args in
+    message-missing (a .shape) (lent (now (a .dist)) (now (a .redist)) (now (a .dist-presence)) (now (a .redist-presence))) (λ k. c .before .before .before .before .before .before .before .before .slice-known .given k .fits) (λ k. c .before .before .before .before .before .before .before .slice-known2 .given k .fits) (a .side) (a .message) (a .value) (not-located (a .shape) (lent (now (a .dist)) (now (a .redist)) (now (a .dist-presence)) (now (a .redist-presence))) _ (sym (c .before .before .locate .ensures) ∙ c .enum-told .given .1))
 
 enum-told-2 : tie.Need-enum-told-2
 enum-told-2 c = search needs
@@ -36,13 +42,19 @@ cast-at : tie.Need-cast-at
 cast-at c = search needs
 
 slice-read-deliver : tie.Need-slice-read-deliver
-slice-read-deliver c = let i = home-kept _ Dist (c .before .before .before .before .home .given .0 .1 .0) (c .before .before .before .before .home .given .0 .1 .1 .0) ((located-there (c .before .before .before .before .before .before .before .before .before .before .before .before .before .args .shape) (lent (now (c .before .before .before .before .before .before .before .before .before .before .before .before .before .args .dist)) (now (c .before .before .before .before .before .before .before .before .before .before .before .before .before .args .redist)) (now (c .before .before .before .before .before .before .before .before .before .before .before .before .before .args .dist-presence)) (now (c .before .before .before .before .before .before .before .before .before .before .before .before .before .args .redist-presence))) (c .before .before .before .before .before .before .before .before .before .before .before .before .before .args .value % 8192) Dist (c .before .before .before .before .home .given .0 .1 .0) (c .before .before .before .before .home .given .0 .1 .1 .0) (sym (c .before .before .before .before .before .before .locate .ensures) ∙ (c .before .before .before .before .home .given .1 ∙ ap (λ (r : Frame). Slot r (c .before .before .before .before .home .given .0 .1 .0) (c .before .before .before .before .home .given .0 .1 .1 .0)) (c .before .enum-told2 .given .1)))) .1) .inside in let l = table-length (c .before .before .before .before .before .before .before .before .before .before .before .before .before .args .shape) (lent (now (c .before .before .before .before .before .before .before .before .before .before .before .before .before .args .dist)) (now (c .before .before .before .before .before .before .before .before .before .before .before .before .before .args .redist)) (now (c .before .before .before .before .before .before .before .before .before .before .before .before .before .args .dist-presence)) (now (c .before .before .before .before .before .before .before .before .before .before .before .before .before .args .redist-presence))) (c .before .before .before .before .before .before .before .before .before .before .before .before .before .pre) Dist in omega arith
+slice-read-deliver c =
+    let a = c .before .before .before .before .before .before .before .before .before .before .before .before .before .args in
+    let b = c .before .before .before .before in
+    let i = home-kept _ Dist (b .home .given .0 .1 .0) (b .home .given .0 .1 .1 .0) ((located-there (a .shape) (lent (now (a .dist)) (now (a .redist)) (now (a .dist-presence)) (now (a .redist-presence))) (a .value % 8192) Dist (b .home .given .0 .1 .0) (b .home .given .0 .1 .1 .0) (sym (c .before .before .before .before .before .before .locate .ensures) ∙ (b .home .given .1 ∙ ap (λ (r : Frame). Slot r (b .home .given .0 .1 .0) (b .home .given .0 .1 .1 .0)) (c .before .enum-told2 .given .1)))) .1) .inside in let l = table-length (a .shape) (lent (now (a .dist)) (now (a .redist)) (now (a .dist-presence)) (now (a .redist-presence))) (c .before .before .before .before .before .before .before .before .before .before .before .before .before .pre) Dist in omega arith
 
 deliver-requires : tie.Need-deliver-requires
 deliver-requires c κs = search needs
 
 slice-write-dist : tie.Need-slice-write-dist
-slice-write-dist c = let i = home-kept _ Dist (c .before .before .before .before .before .home .given .0 .1 .0) (c .before .before .before .before .before .home .given .0 .1 .1 .0) ((located-there (c .before .before .before .before .before .before .before .before .before .before .before .before .before .before .args .shape) (lent (now (c .before .before .before .before .before .before .before .before .before .before .before .before .before .before .args .dist)) (now (c .before .before .before .before .before .before .before .before .before .before .before .before .before .before .args .redist)) (now (c .before .before .before .before .before .before .before .before .before .before .before .before .before .before .args .dist-presence)) (now (c .before .before .before .before .before .before .before .before .before .before .before .before .before .before .args .redist-presence))) (c .before .before .before .before .before .before .before .before .before .before .before .before .before .before .args .value % 8192) Dist (c .before .before .before .before .before .home .given .0 .1 .0) (c .before .before .before .before .before .home .given .0 .1 .1 .0) (sym (c .before .before .before .before .before .before .before .locate .ensures) ∙ (c .before .before .before .before .before .home .given .1 ∙ ap (λ (r : Frame). Slot r (c .before .before .before .before .before .home .given .0 .1 .0) (c .before .before .before .before .before .home .given .0 .1 .1 .0)) (c .before .before .enum-told2 .given .1)))) .1) .inside in let l = table-length (c .before .before .before .before .before .before .before .before .before .before .before .before .before .before .args .shape) (lent (now (c .before .before .before .before .before .before .before .before .before .before .before .before .before .before .args .dist)) (now (c .before .before .before .before .before .before .before .before .before .before .before .before .before .before .args .redist)) (now (c .before .before .before .before .before .before .before .before .before .before .before .before .before .before .args .dist-presence)) (now (c .before .before .before .before .before .before .before .before .before .before .before .before .before .before .args .redist-presence))) (c .before .before .before .before .before .before .before .before .before .before .before .before .before .before .pre) Dist in omega arith
+slice-write-dist c =
+    let a = c .before .before .before .before .before .before .before .before .before .before .before .before .before .before .args in
+    let b = c .before .before .before .before .before in
+    let i = home-kept _ Dist (b .home .given .0 .1 .0) (b .home .given .0 .1 .1 .0) ((located-there (a .shape) (lent (now (a .dist)) (now (a .redist)) (now (a .dist-presence)) (now (a .redist-presence))) (a .value % 8192) Dist (b .home .given .0 .1 .0) (b .home .given .0 .1 .1 .0) (sym (c .before .before .before .before .before .before .before .locate .ensures) ∙ (b .home .given .1 ∙ ap (λ (r : Frame). Slot r (b .home .given .0 .1 .0) (b .home .given .0 .1 .1 .0)) (c .before .before .enum-told2 .given .1)))) .1) .inside in let l = table-length (a .shape) (lent (now (a .dist)) (now (a .redist)) (now (a .dist-presence)) (now (a .redist-presence))) (c .before .before .before .before .before .before .before .before .before .before .before .before .before .before .pre) Dist in omega arith
 
 enum-told-3 : tie.Need-enum-told-3
 enum-told-3 c = search needs
@@ -51,10 +63,17 @@ same-length : tie.Need-same-length
 same-length c = search needs
 
 returns-3 : tie.Need-returns-3
-returns-3 c = message-there (c .before .before .before .before .before .before .before .before .before .before .before .before .before .before .args .shape) (lent (now (c .before .before .before .before .before .before .before .before .before .before .before .before .before .before .args .dist)) (now (c .before .before .before .before .before .before .before .before .before .before .before .before .before .before .args .redist)) (now (c .before .before .before .before .before .before .before .before .before .before .before .before .before .before .args .dist-presence)) (now (c .before .before .before .before .before .before .before .before .before .before .before .before .before .before .args .redist-presence))) (λ k. c .before .before .before .before .before .before .before .before .before .before .before .before .before .slice-known .given k .fits) (λ k. c .before .before .before .before .before .before .before .before .before .before .before .before .slice-known2 .given k .fits) (c .before .before .before .before .before .before .before .before .before .before .before .before .before .before .args .side) (c .before .before .before .before .before .before .before .before .before .before .before .before .before .before .args .message) (c .before .before .before .before .before .before .before .before .before .before .before .before .before .before .args .value) (c .before .before .before .before .before .before .before .before .before .before .before .before .before .before .pre) (not-false (c .before .before .before .before .before .before .before .before .before .before .before .before .before .before .args .shape .mbis) (c .before .before .before .before .before .before .before .before .if1 .left)) (c .before .before .before .before .before .home .given .0 .1 .0) (c .before .before .before .before .before .home .given .0 .1 .1 .0) ((located-there (c .before .before .before .before .before .before .before .before .before .before .before .before .before .before .args .shape) (lent (now (c .before .before .before .before .before .before .before .before .before .before .before .before .before .before .args .dist)) (now (c .before .before .before .before .before .before .before .before .before .before .before .before .before .before .args .redist)) (now (c .before .before .before .before .before .before .before .before .before .before .before .before .before .before .args .dist-presence)) (now (c .before .before .before .before .before .before .before .before .before .before .before .before .before .before .args .redist-presence))) (c .before .before .before .before .before .before .before .before .before .before .before .before .before .before .args .value % 8192) Dist (c .before .before .before .before .before .home .given .0 .1 .0) (c .before .before .before .before .before .home .given .0 .1 .1 .0) (sym (c .before .before .before .before .before .before .before .locate .ensures) ∙ (c .before .before .before .before .before .home .given .1 ∙ ap (λ (r : Frame). Slot r (c .before .before .before .before .before .home .given .0 .1 .0) (c .before .before .before .before .before .home .given .0 .1 .1 .0)) (c .before .before .enum-told2 .given .1)))) .1) ((located-there (c .before .before .before .before .before .before .before .before .before .before .before .before .before .before .args .shape) (lent (now (c .before .before .before .before .before .before .before .before .before .before .before .before .before .before .args .dist)) (now (c .before .before .before .before .before .before .before .before .before .before .before .before .before .before .args .redist)) (now (c .before .before .before .before .before .before .before .before .before .before .before .before .before .before .args .dist-presence)) (now (c .before .before .before .before .before .before .before .before .before .before .before .before .before .before .args .redist-presence))) (c .before .before .before .before .before .before .before .before .before .before .before .before .before .before .args .value % 8192) Dist (c .before .before .before .before .before .home .given .0 .1 .0) (c .before .before .before .before .before .home .given .0 .1 .1 .0) (sym (c .before .before .before .before .before .before .before .locate .ensures) ∙ (c .before .before .before .before .before .home .given .1 ∙ ap (λ (r : Frame). Slot r (c .before .before .before .before .before .home .given .0 .1 .0) (c .before .before .before .before .before .home .given .0 .1 .1 .0)) (c .before .before .enum-told2 .given .1)))) .0) (c .deliver .result) (c .deliver .ensures)
+returns-3 c =
+    let a = c .before .before .before .before .before .before .before .before .before .before .before .before .before .before .args in
+    let b = c .before .before .before .before .before in
+    let b2 = c .before .before .before .before .before .before .before in
+    message-there (a .shape) (lent (now (a .dist)) (now (a .redist)) (now (a .dist-presence)) (now (a .redist-presence))) (λ k. c .before .before .before .before .before .before .before .before .before .before .before .before .before .slice-known .given k .fits) (λ k. c .before .before .before .before .before .before .before .before .before .before .before .before .slice-known2 .given k .fits) (a .side) (a .message) (a .value) (c .before .before .before .before .before .before .before .before .before .before .before .before .before .before .pre) (not-false (a .shape .mbis) (c .before .before .before .before .before .before .before .before .if1 .left)) (b .home .given .0 .1 .0) (b .home .given .0 .1 .1 .0) ((located-there (a .shape) (lent (now (a .dist)) (now (a .redist)) (now (a .dist-presence)) (now (a .redist-presence))) (a .value % 8192) Dist (b .home .given .0 .1 .0) (b .home .given .0 .1 .1 .0) (sym (b2 .locate .ensures) ∙ (b .home .given .1 ∙ ap (λ (r : Frame). Slot r (b .home .given .0 .1 .0) (b .home .given .0 .1 .1 .0)) (c .before .before .enum-told2 .given .1)))) .1) ((located-there (a .shape) (lent (now (a .dist)) (now (a .redist)) (now (a .dist-presence)) (now (a .redist-presence))) (a .value % 8192) Dist (b .home .given .0 .1 .0) (b .home .given .0 .1 .1 .0) (sym (b2 .locate .ensures) ∙ (b .home .given .1 ∙ ap (λ (r : Frame). Slot r (b .home .given .0 .1 .0) (b .home .given .0 .1 .1 .0)) (c .before .before .enum-told2 .given .1)))) .0) (c .deliver .result) (c .deliver .ensures)
 
 returns-4 : tie.Need-returns-4
-returns-4 c = message-no-spi (c .before .before .before .before .before .before .before .before .before .before .before .before .args .shape) (lent (now (c .before .before .before .before .before .before .before .before .before .before .before .before .args .dist)) (now (c .before .before .before .before .before .before .before .before .before .before .before .before .args .redist)) (now (c .before .before .before .before .before .before .before .before .before .before .before .before .args .dist-presence)) (now (c .before .before .before .before .before .before .before .before .before .before .before .before .args .redist-presence))) (λ k. c .before .before .before .before .before .before .before .before .before .before .before .slice-known .given k .fits) (λ k. c .before .before .before .before .before .before .before .before .before .before .slice-known2 .given k .fits) (c .before .before .before .before .before .before .before .before .before .before .before .before .args .side) (c .before .before .before .before .before .before .before .before .before .before .before .before .args .message) (c .before .before .before .before .before .before .before .before .before .before .before .before .args .value) (c .before .before .before .home .given .0 .1 .0) (c .before .before .before .home .given .0 .1 .1 .0) ((located-there (c .before .before .before .before .before .before .before .before .before .before .before .before .args .shape) (lent (now (c .before .before .before .before .before .before .before .before .before .before .before .before .args .dist)) (now (c .before .before .before .before .before .before .before .before .before .before .before .before .args .redist)) (now (c .before .before .before .before .before .before .before .before .before .before .before .before .args .dist-presence)) (now (c .before .before .before .before .before .before .before .before .before .before .before .before .args .redist-presence))) (c .before .before .before .before .before .before .before .before .before .before .before .before .args .value % 8192) Redist (c .before .before .before .home .given .0 .1 .0) (c .before .before .before .home .given .0 .1 .1 .0) (sym (c .before .before .before .before .before .locate .ensures) ∙ (c .before .before .before .home .given .1 ∙ ap (λ (r : Frame). Slot r (c .before .before .before .home .given .0 .1 .0) (c .before .before .before .home .given .0 .1 .1 .0)) (c .enum-told3 .given .1)))) .1)
+returns-4 c =
+    let a = c .before .before .before .before .before .before .before .before .before .before .before .before .args in
+    let b = c .before .before .before in
+    message-no-spi (a .shape) (lent (now (a .dist)) (now (a .redist)) (now (a .dist-presence)) (now (a .redist-presence))) (λ k. c .before .before .before .before .before .before .before .before .before .before .before .slice-known .given k .fits) (λ k. c .before .before .before .before .before .before .before .before .before .before .slice-known2 .given k .fits) (a .side) (a .message) (a .value) (b .home .given .0 .1 .0) (b .home .given .0 .1 .1 .0) ((located-there (a .shape) (lent (now (a .dist)) (now (a .redist)) (now (a .dist-presence)) (now (a .redist-presence))) (a .value % 8192) Redist (b .home .given .0 .1 .0) (b .home .given .0 .1 .1 .0) (sym (c .before .before .before .before .before .locate .ensures) ∙ (b .home .given .1 ∙ ap (λ (r : Frame). Slot r (b .home .given .0 .1 .0) (b .home .given .0 .1 .1 .0)) (c .enum-told3 .given .1)))) .1)
 
 pub send-spec : {M : Type 1} → statement M
 send-spec =

@@ -13,19 +13,34 @@ first-of-requires : tie.Need-first-of-requires
 first-of-requires c κs = c .before .before .before .before .pre .1 .0
 
 mask-of-requires : tie.Need-mask-of-requires
-mask-of-requires c κs = (presence-fits (c .before .before .before .before .before .args .shape) (lent (now (c .before .before .before .before .before .args .dist)) (now (c .before .before .before .before .before .args .redist)) (now (c .before .before .before .before .before .args .dist-presence)) (now (c .before .before .before .before .before .args .redist-presence))) (c .before .before .before .before .before .pre .0), c .before .before .before .before .before .pre .1 .0)
+mask-of-requires c κs =
+    let a = c .before .before .before .before .before .args in
+    let b = c .before .before .before .before .before in
+    (presence-fits (a .shape) (lent (now (a .dist)) (now (a .redist)) (now (a .dist-presence)) (now (a .redist-presence))) (b .pre .0), b .pre .1 .0)
 
 span-of-requires : tie.Need-span-of-requires
 span-of-requires c κs = c .before .before .before .before .before .before .pre .1 .0
 
 part-requires : tie.Need-part-requires
-part-requires c κs = let h = span-inside (c .before .before .before .before .before .before .before .args .shape) (lent (now (c .before .before .before .before .before .before .before .args .dist)) (now (c .before .before .before .before .before .before .before .args .redist)) (now (c .before .before .before .before .before .before .before .args .dist-presence)) (now (c .before .before .before .before .before .before .before .args .redist-presence))) (c .before .before .before .before .before .before .before .pre .0) (c .before .before .before .before .before .before .before .args .place) (c .before .before .before .before .before .before .before .pre .1 .0) in rw (c .span-of .ensures) (h .0, rw (records-same (now (c .before .before .before .before .before .before .before .args .dist)) (now (c .before .before .before .before .before .before .before .args .redist)) (now (c .before .before .before .before .before .before .before .args .dist-presence)) (now (c .before .before .before .before .before .before .before .args .redist-presence)) (frameOf (c .before .before .before .before .before .before .before .args .place))) at (h .1))
+part-requires c κs =
+    let a = c .before .before .before .before .before .before .before .args in
+    let b = c .before .before .before .before .before .before .before in
+    let h = span-inside (a .shape) (lent (now (a .dist)) (now (a .redist)) (now (a .dist-presence)) (now (a .redist-presence))) (b .pre .0) (a .place) (b .pre .1 .0) in rw (c .span-of .ensures) (h .0, rw (records-same (now (a .dist)) (now (a .redist)) (now (a .dist-presence)) (now (a .redist-presence)) (frameOf (a .place))) at (h .1))
 
 gather-requires : tie.Need-gather-requires
-gather-requires c κs = rw (c .part .ensures, c .before .span-of .ensures) (word-fits (c .before .before .before .before .before .before .before .before .args .shape) (lent (now (c .before .before .before .before .before .before .before .before .args .dist)) (now (c .before .before .before .before .before .before .before .before .args .redist)) (now (c .before .before .before .before .before .before .before .before .args .dist-presence)) (now (c .before .before .before .before .before .before .before .before .args .redist-presence))) (c .before .before .before .before .before .before .before .before .pre .0) (c .before .before .before .before .before .before .before .before .args .side) (c .before .before .before .before .before .before .before .before .args .family) (c .before .before .before .before .before .before .before .before .args .place) (c .before .before .before .before .before .before .before .before .pre .1 .0) (c .before .before .before .first-of .result) (c .before .before .mask-of .result) (c .before .before .before .first-of .ensures) (c .before .before .mask-of .ensures) (c .before .before .before .before .before .before .before .before .pre .1 .1) _ (part-length _ _ _))
+gather-requires c κs =
+    let a = c .before .before .before .before .before .before .before .before .args in
+    let b = c .before .before .before .before .before .before .before .before in
+    let b2 = c .before .before .before in
+    rw (c .part .ensures, c .before .span-of .ensures) (word-fits (a .shape) (lent (now (a .dist)) (now (a .redist)) (now (a .dist-presence)) (now (a .redist-presence))) (b .pre .0) (a .side) (a .family) (a .place) (b .pre .1 .0) (b2 .first-of .result) (c .before .before .mask-of .result) (b2 .first-of .ensures) (c .before .before .mask-of .ensures) (b .pre .1 .1) _ (part-length _ _ _))
 
 returns : tie.Need-returns
-returns c = rw (c .gather .ensures, c .before .part .ensures, c .before .before .span-of .ensures) (rw (records-same (now (c .before .before .before .before .before .before .before .before .before .args .dist)) (now (c .before .before .before .before .before .before .before .before .before .args .redist)) (now (c .before .before .before .before .before .before .before .before .before .args .dist-presence)) (now (c .before .before .before .before .before .before .before .before .before .args .redist-presence)) (frameOf (c .before .before .before .before .before .before .before .before .before .args .place))) at (read-part (c .before .before .before .before .before .before .before .before .before .args .shape) (lent (now (c .before .before .before .before .before .before .before .before .before .args .dist)) (now (c .before .before .before .before .before .before .before .before .before .args .redist)) (now (c .before .before .before .before .before .before .before .before .before .args .dist-presence)) (now (c .before .before .before .before .before .before .before .before .before .args .redist-presence))) (c .before .before .before .before .before .before .before .before .before .pre .0) (c .before .before .before .before .before .before .before .before .before .args .side) (c .before .before .before .before .before .before .before .before .before .args .family) (c .before .before .before .before .before .before .before .before .before .args .place) (c .before .before .before .before .before .before .before .before .before .pre .1 .0) (c .before .before .before .before .first-of .result) (c .before .before .before .mask-of .result) (c .before .before .before .before .first-of .ensures) (c .before .before .before .mask-of .ensures)))
+returns c =
+    let a = c .before .before .before .before .before .before .before .before .before .args in
+    let b = c .before .before .before .before .before .before .before .before .before in
+    let b2 = c .before .before .before .before in
+    let b3 = c .before .before .before in
+    rw (c .gather .ensures, c .before .part .ensures, c .before .before .span-of .ensures) (rw (records-same (now (a .dist)) (now (a .redist)) (now (a .dist-presence)) (now (a .redist-presence)) (frameOf (a .place))) at (read-part (a .shape) (lent (now (a .dist)) (now (a .redist)) (now (a .dist-presence)) (now (a .redist-presence))) (b .pre .0) (a .side) (a .family) (a .place) (b .pre .1 .0) (b2 .first-of .result) (b3 .mask-of .result) (b2 .first-of .ensures) (b3 .mask-of .ensures)))
 
 pub read-word-spec : {M : Type 1} → statement M
 read-word-spec =

@@ -27,19 +27,25 @@ enum-told : tie.Need-enum-told
 enum-told c = search needs
 
 returns : tie.Need-returns
-returns c = sym (located-nowhere (c .before .before .before .before .before .args .shape) (now (c .before .before .before .before .before .args .dist-presence)) (now (c .before .before .before .before .before .args .redist-presence)) (c .before .before .before .before .before .args .m) (sym (c .before .before .home-of .ensures) ∙ c .enum-told .given .1))
+returns c =
+    let a = c .before .before .before .before .before .args in
+    sym (located-nowhere (a .shape) (now (a .dist-presence)) (now (a .redist-presence)) (a .m) (sym (c .before .before .home-of .ensures) ∙ c .enum-told .given .1))
 
 in-range-requires : tie.Need-in-range-requires
 in-range-requires c κs = search needs
 
 returns-2 : tie.Need-returns-2
-returns-2 c = sym (located-out (c .before .before .before .before .before .before .before .before .args .shape) (now (c .before .before .before .before .before .before .before .before .args .dist-presence)) (now (c .before .before .before .before .before .before .before .before .args .redist-presence)) (c .before .before .before .before .before .before .before .before .args .m) (sym (c .before .in-range .ensures) ∙ not-true _ (c .if1 .taken)))
+returns-2 c =
+    let a = c .before .before .before .before .before .before .before .before .args in
+    sym (located-out (a .shape) (now (a .dist-presence)) (now (a .redist-presence)) (a .m) (sym (c .before .in-range .ensures) ∙ not-true _ (c .if1 .taken)))
 
 enum-told-2 : tie.Need-enum-told-2
 enum-told-2 c = search needs
 
 bit-of-requires : tie.Need-bit-of-requires
-bit-of-requires c κs = let w = rw (c .enum-told2 .given .1) at (home-word (c .before .before .before .before .before .before .before .before .before .before .args .m) (c .before .before .before .before .before .home .given .0 .0) (c .before .before .before .before .before .home .given .0 .1 .0) (c .before .before .before .before .before .home .given .0 .1 .1 .0) (sym (c .before .before .before .before .before .before .before .home-of .ensures) ∙ c .before .before .before .before .before .home .given .1)) in let l = c .before .before .before .before .before .before .before .before .before .before .pre .dist-words in (omega arith, omega arith)
+bit-of-requires c κs =
+    let b = c .before .before .before .before .before in
+    let w = rw (c .enum-told2 .given .1) at (home-word (c .before .before .before .before .before .before .before .before .before .before .args .m) (b .home .given .0 .0) (b .home .given .0 .1 .0) (b .home .given .0 .1 .1 .0) (sym (c .before .before .before .before .before .before .before .home-of .ensures) ∙ b .home .given .1)) in let l = c .before .before .before .before .before .before .before .before .before .before .pre .dist-words in (omega arith, omega arith)
 
 if-present-requires : tie.Need-if-present-requires
 if-present-requires c κs = search needs
@@ -48,16 +54,26 @@ enum-told-3 : tie.Need-enum-told-3
 enum-told-3 c = search needs
 
 bit-of-requires-2 : tie.Need-bit-of-requires-2
-bit-of-requires-2 c κs = let w = rw (c .enum-told3 .given .1) at (home-word (c .before .before .before .before .before .before .before .before .before .before .args .m) (c .before .before .before .before .before .home .given .0 .0) (c .before .before .before .before .before .home .given .0 .1 .0) (c .before .before .before .before .before .home .given .0 .1 .1 .0) (sym (c .before .before .before .before .before .before .before .home-of .ensures) ∙ c .before .before .before .before .before .home .given .1)) in let l = c .before .before .before .before .before .before .before .before .before .before .pre .redist-words in (omega arith, omega arith)
+bit-of-requires-2 c κs =
+    let b = c .before .before .before .before .before in
+    let w = rw (c .enum-told3 .given .1) at (home-word (c .before .before .before .before .before .before .before .before .before .before .args .m) (b .home .given .0 .0) (b .home .given .0 .1 .0) (b .home .given .0 .1 .1 .0) (sym (c .before .before .before .before .before .before .before .home-of .ensures) ∙ b .home .given .1)) in let l = c .before .before .before .before .before .before .before .before .before .before .pre .redist-words in (omega arith, omega arith)
 
 if-present-requires-2 : tie.Need-if-present-requires-2
 if-present-requires-2 c κs = search needs
 
 returns-3 : tie.Need-returns-3
-returns-3 c = rw (c .if-present .ensures, c .before .bit-of .ensures) (ap (λ (h : Home). orElse (bitAt (getD (presenceOf Dist (presences (now (c .before .before .before .before .before .before .before .before .before .before .before .before .args .dist-presence)) (now (c .before .before .before .before .before .before .before .before .before .before .before .before .args .redist-presence)))) (c .before .before .before .before .before .before .before .home .given .0 .1 .1 .0) 0) (c .before .before .before .before .before .before .before .before .before .before .before .before .args .m % 32)) h Nowhere) (sym (c .before .before .before .before .before .before .before .home .given .1) ∙ c .before .before .before .before .before .before .before .before .before .home-of .ensures) ∙ sym (located-at (c .before .before .before .before .before .before .before .before .before .before .before .before .args .shape) (now (c .before .before .before .before .before .before .before .before .before .before .before .before .args .dist-presence)) (now (c .before .before .before .before .before .before .before .before .before .before .before .before .args .redist-presence)) (c .before .before .before .before .before .before .before .before .before .before .before .before .args .m) Dist (c .before .before .before .before .before .before .before .home .given .0 .1 .0) (c .before .before .before .before .before .before .before .home .given .0 .1 .1 .0) (sym (c .before .before .before .before .before .before .before .before .before .home-of .ensures) ∙ (c .before .before .before .before .before .before .before .home .given .1 ∙ ap (λ (f : Frame). Slot f (c .before .before .before .before .before .before .before .home .given .0 .1 .0) (c .before .before .before .before .before .before .before .home .given .0 .1 .1 .0)) (c .before .before .enum-told2 .given .1))) (sym (c .before .before .before .before .before .in-range .ensures) ∙ not-false _ (c .before .before .before .before .if1 .left))))
+returns-3 c =
+    let a = c .before .before .before .before .before .before .before .before .before .before .before .before .args in
+    let b = c .before .before .before .before .before .before .before in
+    let b2 = c .before .before .before .before .before .before .before .before .before in
+    rw (c .if-present .ensures, c .before .bit-of .ensures) (ap (λ (h : Home). orElse (bitAt (getD (presenceOf Dist (presences (now (a .dist-presence)) (now (a .redist-presence)))) (b .home .given .0 .1 .1 .0) 0) (a .m % 32)) h Nowhere) (sym (b .home .given .1) ∙ b2 .home-of .ensures) ∙ sym (located-at (a .shape) (now (a .dist-presence)) (now (a .redist-presence)) (a .m) Dist (b .home .given .0 .1 .0) (b .home .given .0 .1 .1 .0) (sym (b2 .home-of .ensures) ∙ (b .home .given .1 ∙ ap (λ (f : Frame). Slot f (b .home .given .0 .1 .0) (b .home .given .0 .1 .1 .0)) (c .before .before .enum-told2 .given .1))) (sym (c .before .before .before .before .before .in-range .ensures) ∙ not-false _ (c .before .before .before .before .if1 .left))))
 
 returns-4 : tie.Need-returns-4
-returns-4 c = rw (c .if-present2 .ensures, c .before .bit-of2 .ensures) (ap (λ (h : Home). orElse (bitAt (getD (presenceOf Redist (presences (now (c .before .before .before .before .before .before .before .before .before .before .before .before .args .dist-presence)) (now (c .before .before .before .before .before .before .before .before .before .before .before .before .args .redist-presence)))) (c .before .before .before .before .before .before .before .home .given .0 .1 .1 .0) 0) (c .before .before .before .before .before .before .before .before .before .before .before .before .args .m % 32)) h Nowhere) (sym (c .before .before .before .before .before .before .before .home .given .1) ∙ c .before .before .before .before .before .before .before .before .before .home-of .ensures) ∙ sym (located-at (c .before .before .before .before .before .before .before .before .before .before .before .before .args .shape) (now (c .before .before .before .before .before .before .before .before .before .before .before .before .args .dist-presence)) (now (c .before .before .before .before .before .before .before .before .before .before .before .before .args .redist-presence)) (c .before .before .before .before .before .before .before .before .before .before .before .before .args .m) Redist (c .before .before .before .before .before .before .before .home .given .0 .1 .0) (c .before .before .before .before .before .before .before .home .given .0 .1 .1 .0) (sym (c .before .before .before .before .before .before .before .before .before .home-of .ensures) ∙ (c .before .before .before .before .before .before .before .home .given .1 ∙ ap (λ (f : Frame). Slot f (c .before .before .before .before .before .before .before .home .given .0 .1 .0) (c .before .before .before .before .before .before .before .home .given .0 .1 .1 .0)) (c .before .before .enum-told3 .given .1))) (sym (c .before .before .before .before .before .in-range .ensures) ∙ not-false _ (c .before .before .before .before .if1 .left))))
+returns-4 c =
+    let a = c .before .before .before .before .before .before .before .before .before .before .before .before .args in
+    let b = c .before .before .before .before .before .before .before in
+    let b2 = c .before .before .before .before .before .before .before .before .before in
+    rw (c .if-present2 .ensures, c .before .bit-of2 .ensures) (ap (λ (h : Home). orElse (bitAt (getD (presenceOf Redist (presences (now (a .dist-presence)) (now (a .redist-presence)))) (b .home .given .0 .1 .1 .0) 0) (a .m % 32)) h Nowhere) (sym (b .home .given .1) ∙ b2 .home-of .ensures) ∙ sym (located-at (a .shape) (now (a .dist-presence)) (now (a .redist-presence)) (a .m) Redist (b .home .given .0 .1 .0) (b .home .given .0 .1 .1 .0) (sym (b2 .home-of .ensures) ∙ (b .home .given .1 ∙ ap (λ (f : Frame). Slot f (b .home .given .0 .1 .0) (b .home .given .0 .1 .1 .0)) (c .before .before .enum-told3 .given .1))) (sym (c .before .before .before .before .before .in-range .ensures) ∙ not-false _ (c .before .before .before .before .if1 .left))))
 
 pub locate-spec : {M : Type 1} → statement M
 locate-spec =

@@ -24,30 +24,50 @@ per-word-requires : tie.Need-per-word-requires
 per-word-requires c κs = search needs
 
 mul-start : tie.Need-mul-start
-mul-start c = let c2 = dist-covers (c .before .before .before .args .f) (c .before .before .before .args .n) (c .before .before .before .pre) in let hi = high-covers (c .before .before .before .args .f) (c .before .before .before .args .n) (rw (c .before .before .digit-bits .ensures) at (c .before .if1 .left)) in let small = per-small (c .before .before .before .args .f) in let large = per-large (c .before .before .before .args .f) in record { fits = rw (c .per-word .ensures) (omega arith) }
+mul-start c =
+    let a = c .before .before .before .args in
+    let c2 = dist-covers (a .f) (a .n) (c .before .before .before .pre) in let hi = high-covers (a .f) (a .n) (rw (c .before .before .digit-bits .ensures) at (c .before .if1 .left)) in let small = per-small (a .f) in let large = per-large (a .f) in record { fits = rw (c .per-word .ensures) (omega arith) }
 
 sub-start : tie.Need-sub-start
-sub-start c = let c2 = dist-covers (c .before .before .before .args .f) (c .before .before .before .args .n) (c .before .before .before .pre) in let hi = high-covers (c .before .before .before .args .f) (c .before .before .before .args .n) (rw (c .before .before .digit-bits .ensures) at (c .before .if1 .left)) in let small = per-small (c .before .before .before .args .f) in let large = per-large (c .before .before .before .args .f) in rw (c .per-word .ensures) (omega arith)
+sub-start c =
+    let a = c .before .before .before .args in
+    let c2 = dist-covers (a .f) (a .n) (c .before .before .before .pre) in let hi = high-covers (a .f) (a .n) (rw (c .before .before .digit-bits .ensures) at (c .before .if1 .left)) in let small = per-small (a .f) in let large = per-large (a .f) in rw (c .per-word .ensures) (omega arith)
 
 add-if2 : tie.Need-add-if2
-add-if2 c = let c2 = dist-covers (c .before .before .before .args .f) (c .before .before .before .args .n) (c .before .before .before .pre) in let hi = high-covers (c .before .before .before .args .f) (c .before .before .before .args .n) (rw (c .before .before .digit-bits .ensures) at (c .before .if1 .left)) in let small = per-small (c .before .before .before .args .f) in let large = per-large (c .before .before .before .args .f) in record { fits = rw (c .per-word .ensures) (omega arith) }
+add-if2 c =
+    let a = c .before .before .before .args in
+    let c2 = dist-covers (a .f) (a .n) (c .before .before .before .pre) in let hi = high-covers (a .f) (a .n) (rw (c .before .before .digit-bits .ensures) at (c .before .if1 .left)) in let small = per-small (a .f) in let large = per-large (a .f) in record { fits = rw (c .per-word .ensures) (omega arith) }
 
 sub-whole : tie.Need-sub-whole
-sub-whole c = let c2 = dist-covers (c .before .before .before .before .args .f) (c .before .before .before .before .args .n) (c .before .before .before .before .pre) in let hi = high-covers (c .before .before .before .before .args .f) (c .before .before .before .before .args .n) (rw (c .before .before .before .digit-bits .ensures) at (c .before .before .if1 .left)) in let small = per-small (c .before .before .before .before .args .f) in let large = per-large (c .before .before .before .before .args .f) in rw (c .before .per-word .ensures) (omega arith)
+sub-whole c =
+    let a = c .before .before .before .before .args in
+    let c2 = dist-covers (a .f) (a .n) (c .before .before .before .before .pre) in let hi = high-covers (a .f) (a .n) (rw (c .before .before .before .digit-bits .ensures) at (c .before .before .if1 .left)) in let small = per-small (a .f) in let large = per-large (a .f) in rw (c .before .per-word .ensures) (omega arith)
 
 whole-requires-2 : tie.Need-whole-requires-2
-whole-requires-2 c κs = let c2 = dist-covers (c .before .before .before .before .args .f) (c .before .before .before .before .args .n) (c .before .before .before .before .pre) in let hi = high-covers (c .before .before .before .before .args .f) (c .before .before .before .before .args .n) (rw (c .before .before .before .digit-bits .ensures) at (c .before .before .if1 .left)) in let small = per-small (c .before .before .before .before .args .f) in let large = per-large (c .before .before .before .before .args .f) in let past = rw (c .before .per-word .ensures) at (c .if2 .taken) in rw (c .before .per-word .ensures) (omega arith)
+whole-requires-2 c κs =
+    let a = c .before .before .before .before .args in
+    let c2 = dist-covers (a .f) (a .n) (c .before .before .before .before .pre) in let hi = high-covers (a .f) (a .n) (rw (c .before .before .before .digit-bits .ensures) at (c .before .before .if1 .left)) in let small = per-small (a .f) in let large = per-large (a .f) in let past = rw (c .before .per-word .ensures) at (c .if2 .taken) in rw (c .before .per-word .ensures) (omega arith)
 
 returns-2 : tie.Need-returns-2
 unfolding startOf endOf
-returns-2 c = let c2 = dist-covers (c .before .before .before .before .before .args .f) (c .before .before .before .before .before .args .n) (c .before .before .before .before .before .pre) in let hi = high-covers (c .before .before .before .before .before .args .f) (c .before .before .before .before .before .args .n) (rw (c .before .before .before .before .digit-bits .ensures) at (c .before .before .before .if1 .left)) in let small = per-small (c .before .before .before .before .before .args .f) in let large = per-large (c .before .before .before .before .before .args .f) in let past = rw (c .before .before .per-word .ensures) at (c .before .if2 .taken) in let e : perWord (c .before .before .before .before .before .args .f) * c .before .before .before .before .before .args .n - 32 + (988 - (perWord (c .before .before .before .before .before .args .f) * c .before .before .before .before .before .args .n - 32)) ≡ min 988 (perWord (c .before .before .before .before .before .args .f) * c .before .before .before .before .before .args .n - 32 + perWord (c .before .before .before .before .before .args .f)) = omega arith in rw (c .whole2 .ensures, ← (c .before .before .before .before .digit-bits .ensures), le-ltb _ _ (c .before .before .before .if1 .left), c .before .before .per-word .ensures) (λ i. record { frame = Dist; start = perWord (c .before .before .before .before .before .args .f) * c .before .before .before .before .before .args .n - 32; end = e i })
+returns-2 c =
+    let a = c .before .before .before .before .before .args in
+    let b = c .before .before .before .before in
+    let b2 = c .before .before .before in
+    let c2 = dist-covers (a .f) (a .n) (c .before .before .before .before .before .pre) in let hi = high-covers (a .f) (a .n) (rw (b .digit-bits .ensures) at (b2 .if1 .left)) in let small = per-small (a .f) in let large = per-large (a .f) in let past = rw (c .before .before .per-word .ensures) at (c .before .if2 .taken) in let e : perWord (a .f) * a .n - 32 + (988 - (perWord (a .f) * a .n - 32)) ≡ min 988 (perWord (a .f) * a .n - 32 + perWord (a .f)) = omega arith in rw (c .whole2 .ensures, ← (b .digit-bits .ensures), le-ltb _ _ (b2 .if1 .left), c .before .before .per-word .ensures) (λ i. record { frame = Dist; start = perWord (a .f) * a .n - 32; end = e i })
 
 whole-requires-3 : tie.Need-whole-requires-3
-whole-requires-3 c κs = let c2 = dist-covers (c .before .before .before .before .args .f) (c .before .before .before .before .args .n) (c .before .before .before .before .pre) in let hi = high-covers (c .before .before .before .before .args .f) (c .before .before .before .before .args .n) (rw (c .before .before .before .digit-bits .ensures) at (c .before .before .if1 .left)) in let small = per-small (c .before .before .before .before .args .f) in let large = per-large (c .before .before .before .before .args .f) in rw (c .before .per-word .ensures) (omega arith)
+whole-requires-3 c κs =
+    let a = c .before .before .before .before .args in
+    let c2 = dist-covers (a .f) (a .n) (c .before .before .before .before .pre) in let hi = high-covers (a .f) (a .n) (rw (c .before .before .before .digit-bits .ensures) at (c .before .before .if1 .left)) in let small = per-small (a .f) in let large = per-large (a .f) in rw (c .before .per-word .ensures) (omega arith)
 
 returns-3 : tie.Need-returns-3
 unfolding startOf endOf
-returns-3 c = let c2 = dist-covers (c .before .before .before .before .before .args .f) (c .before .before .before .before .before .args .n) (c .before .before .before .before .before .pre) in let hi = high-covers (c .before .before .before .before .before .args .f) (c .before .before .before .before .before .args .n) (rw (c .before .before .before .before .digit-bits .ensures) at (c .before .before .before .if1 .left)) in let small = per-small (c .before .before .before .before .before .args .f) in let large = per-large (c .before .before .before .before .before .args .f) in let past = rw (c .before .before .per-word .ensures) at (c .before .if2 .left) in let e : perWord (c .before .before .before .before .before .args .f) * c .before .before .before .before .before .args .n - 32 + perWord (c .before .before .before .before .before .args .f) ≡ min 988 (perWord (c .before .before .before .before .before .args .f) * c .before .before .before .before .before .args .n - 32 + perWord (c .before .before .before .before .before .args .f)) = omega arith in rw (c .whole3 .ensures, ← (c .before .before .before .before .digit-bits .ensures), le-ltb _ _ (c .before .before .before .if1 .left), c .before .before .per-word .ensures) (λ i. record { frame = Dist; start = perWord (c .before .before .before .before .before .args .f) * c .before .before .before .before .before .args .n - 32; end = e i })
+returns-3 c =
+    let a = c .before .before .before .before .before .args in
+    let b = c .before .before .before .before in
+    let b2 = c .before .before .before in
+    let c2 = dist-covers (a .f) (a .n) (c .before .before .before .before .before .pre) in let hi = high-covers (a .f) (a .n) (rw (b .digit-bits .ensures) at (b2 .if1 .left)) in let small = per-small (a .f) in let large = per-large (a .f) in let past = rw (c .before .before .per-word .ensures) at (c .before .if2 .left) in let e : perWord (a .f) * a .n - 32 + perWord (a .f) ≡ min 988 (perWord (a .f) * a .n - 32 + perWord (a .f)) = omega arith in rw (c .whole3 .ensures, ← (b .digit-bits .ensures), le-ltb _ _ (b2 .if1 .left), c .before .before .per-word .ensures) (λ i. record { frame = Dist; start = perWord (a .f) * a .n - 32; end = e i })
 
 pub dist-span-spec : {M : Type 1} → statement M
 dist-span-spec =

@@ -11,13 +11,19 @@ enum-told : tie.Need-enum-told
 enum-told c = search needs
 
 dist-mask-requires : tie.Need-dist-mask-requires
-dist-mask-requires c κs = (c .before .before .before .before .before .before .before .pre .0 .dist-words, valid-dist (c .before .before .before .before .before .before .before .args .place) (c .before .before .before .place .given .0 .0) (c .before .before .before .place .given .0 .1 .0) (c .before .before .before .place .given .0 .1 .1 .0) (c .before .before .before .place .given .1) (c .enum-told .given .1) (c .before .before .before .before .before .before .before .pre .1))
+dist-mask-requires c κs =
+    let b = c .before .before .before in
+    let b2 = c .before .before .before .before .before .before .before in
+    (b2 .pre .0 .dist-words, valid-dist (b2 .args .place) (b .place .given .0 .0) (b .place .given .0 .1 .0) (b .place .given .0 .1 .1 .0) (b .place .given .1) (c .enum-told .given .1) (b2 .pre .1))
 
 enum-told-2 : tie.Need-enum-told-2
 enum-told-2 c = search needs
 
 redist-mask-requires : tie.Need-redist-mask-requires
-redist-mask-requires c κs = (c .before .before .before .before .before .before .before .pre .0 .redist-words, valid-redist (c .before .before .before .before .before .before .before .args .place) (c .before .before .before .place .given .0 .0) (c .before .before .before .place .given .0 .1 .0) (c .before .before .before .place .given .0 .1 .1 .0) (c .before .before .before .place .given .1) (c .enum-told2 .given .1) (c .before .before .before .before .before .before .before .pre .1))
+redist-mask-requires c κs =
+    let b = c .before .before .before in
+    let b2 = c .before .before .before .before .before .before .before in
+    (b2 .pre .0 .redist-words, valid-redist (b2 .args .place) (b .place .given .0 .0) (b .place .given .0 .1 .0) (b .place .given .0 .1 .1 .0) (b .place .given .1) (c .enum-told2 .given .1) (b2 .pre .1))
 
 enum-known-place-2 : tie.Need-enum-known-place-2
 enum-known-place-2 c = search needs
@@ -26,13 +32,19 @@ enum-told-3 : tie.Need-enum-told-3
 enum-told-3 c = search needs
 
 extended-mask-requires : tie.Need-extended-mask-requires
-extended-mask-requires c κs = (c .before .before .before .before .before .before .before .pre .0 .dist-words, valid-extended (c .before .before .before .before .before .before .before .args .place) (c .before .before .before .place2 .given .0 .0) (c .before .before .before .place2 .given .0 .1 .0) (c .before .before .before .place2 .given .0 .1 .1 .0) (c .before .before .before .place2 .given .1) (c .enum-told3 .given .1) (c .before .before .before .before .before .before .before .pre .1))
+extended-mask-requires c κs =
+    let b = c .before .before .before in
+    let b2 = c .before .before .before .before .before .before .before in
+    (b2 .pre .0 .dist-words, valid-extended (b2 .args .place) (b .place2 .given .0 .0) (b .place2 .given .0 .1 .0) (b .place2 .given .0 .1 .1 .0) (b .place2 .given .1) (c .enum-told3 .given .1) (b2 .pre .1))
 
 enum-told-4 : tie.Need-enum-told-4
 enum-told-4 c = search needs
 
 redist-mask-requires-2 : tie.Need-redist-mask-requires-2
-redist-mask-requires-2 c κs = (c .before .before .before .before .before .before .before .pre .0 .redist-words, valid-eppi (c .before .before .before .before .before .before .before .args .place) (c .before .before .before .place2 .given .0 .0) (c .before .before .before .place2 .given .0 .1 .0) (c .before .before .before .place2 .given .0 .1 .1 .0) (c .before .before .before .place2 .given .1) (c .enum-told4 .given .1) (c .before .before .before .before .before .before .before .pre .1))
+redist-mask-requires-2 c κs =
+    let b = c .before .before .before in
+    let b2 = c .before .before .before .before .before .before .before in
+    (b2 .pre .0 .redist-words, valid-eppi (b2 .args .place) (b .place2 .given .0 .0) (b .place2 .given .0 .1 .0) (b .place2 .given .0 .1 .1 .0) (b .place2 .given .1) (c .enum-told4 .given .1) (b2 .pre .1))
 
 enum-told-5 : tie.Need-enum-told-5
 enum-told-5 c = search needs

@@ -11,13 +11,17 @@ enum-told : tie.Need-enum-told
 enum-told c = search needs
 
 dist-span-requires : tie.Need-dist-span-requires
-dist-span-requires c κs = valid-dist (c .before .before .before .before .before .args .place) (c .before .before .before .place .given .0 .0) (c .before .before .before .place .given .0 .1 .0) (c .before .before .before .place .given .0 .1 .1 .0) (c .before .before .before .place .given .1) (c .enum-told .given .1) (c .before .before .before .before .before .pre)
+dist-span-requires c κs =
+    let b = c .before .before .before in
+    valid-dist (c .before .before .before .before .before .args .place) (b .place .given .0 .0) (b .place .given .0 .1 .0) (b .place .given .0 .1 .1 .0) (b .place .given .1) (c .enum-told .given .1) (c .before .before .before .before .before .pre)
 
 enum-told-2 : tie.Need-enum-told-2
 enum-told-2 c = search needs
 
 redist-span-requires : tie.Need-redist-span-requires
-redist-span-requires c κs = valid-redist (c .before .before .before .before .before .args .place) (c .before .before .before .place .given .0 .0) (c .before .before .before .place .given .0 .1 .0) (c .before .before .before .place .given .0 .1 .1 .0) (c .before .before .before .place .given .1) (c .enum-told2 .given .1) (c .before .before .before .before .before .pre)
+redist-span-requires c κs =
+    let b = c .before .before .before in
+    valid-redist (c .before .before .before .before .before .args .place) (b .place .given .0 .0) (b .place .given .0 .1 .0) (b .place .given .0 .1 .1 .0) (b .place .given .1) (c .enum-told2 .given .1) (c .before .before .before .before .before .pre)
 
 enum-known-place-2 : tie.Need-enum-known-place-2
 enum-known-place-2 c = search needs
@@ -26,13 +30,17 @@ enum-told-3 : tie.Need-enum-told-3
 enum-told-3 c = search needs
 
 extended-span-requires : tie.Need-extended-span-requires
-extended-span-requires c κs = valid-extended (c .before .before .before .before .before .args .place) (c .before .before .before .place2 .given .0 .0) (c .before .before .before .place2 .given .0 .1 .0) (c .before .before .before .place2 .given .0 .1 .1 .0) (c .before .before .before .place2 .given .1) (c .enum-told3 .given .1) (c .before .before .before .before .before .pre)
+extended-span-requires c κs =
+    let b = c .before .before .before in
+    valid-extended (c .before .before .before .before .before .args .place) (b .place2 .given .0 .0) (b .place2 .given .0 .1 .0) (b .place2 .given .0 .1 .1 .0) (b .place2 .given .1) (c .enum-told3 .given .1) (c .before .before .before .before .before .pre)
 
 enum-told-4 : tie.Need-enum-told-4
 enum-told-4 c = search needs
 
 redist-span-requires-2 : tie.Need-redist-span-requires-2
-redist-span-requires-2 c κs = valid-eppi (c .before .before .before .before .before .args .place) (c .before .before .before .place2 .given .0 .0) (c .before .before .before .place2 .given .0 .1 .0) (c .before .before .before .place2 .given .0 .1 .1 .0) (c .before .before .before .place2 .given .1) (c .enum-told4 .given .1) (c .before .before .before .before .before .pre)
+redist-span-requires-2 c κs =
+    let b = c .before .before .before in
+    valid-eppi (c .before .before .before .before .before .args .place) (b .place2 .given .0 .0) (b .place2 .given .0 .1 .0) (b .place2 .given .0 .1 .1 .0) (b .place2 .given .1) (c .enum-told4 .given .1) (c .before .before .before .before .before .pre)
 
 enum-told-5 : tie.Need-enum-told-5
 enum-told-5 c = search needs

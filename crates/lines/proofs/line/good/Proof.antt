@@ -16,7 +16,9 @@ rank-requires c κs = search needs
 
 complete-requires : tie.Need-complete-requires
 unfolding keeping
-complete-requires c κs = let same = ap (λ (q : Progress). q .steps) (c .before .before .before .before .before .keep .ensures) in (omega (arith, c .before .before .before .before .before .before .before .before .before .before .before .pre .0), omega (arith, c .before .before .before .before .before .before .before .before .before .before .before .pre .1))
+complete-requires c κs =
+    let b = c .before .before .before .before .before .before .before .before .before .before .before in
+    let same = ap (λ (q : Progress). q .steps) (c .before .before .before .before .before .keep .ensures) in (omega (arith, b .pre .0), omega (arith, b .pre .1))
 
 same-length : tie.Need-same-length
 same-length c = search needs

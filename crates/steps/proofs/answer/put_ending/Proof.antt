@@ -17,7 +17,9 @@ same-length : tie.Need-same-length
 same-length c = search needs
 
 returns-2 : tie.Need-returns-2
-returns-2 c = rw (ending-rest (c .before .before .before .before .before .before .before .before .args .p) (now (c .before .before .before .before .before .before .before .before .args .rest)) (c .before .before .before .before .before .if1 .left) (c .before .before .before .before .if2 .taken)) (c .before .before .put-bad .ensures)
+returns-2 c =
+    let a = c .before .before .before .before .before .before .before .before .args in
+    rw (ending-rest (a .p) (now (a .rest)) (c .before .before .before .before .before .if1 .left) (c .before .before .before .before .if2 .taken)) (c .before .before .put-bad .ensures)
 
 rank-requires : tie.Need-rank-requires
 rank-requires c κs = search needs
@@ -29,7 +31,9 @@ same-length-2 : tie.Need-same-length-2
 same-length-2 c = search needs
 
 returns-3 : tie.Need-returns-3
-returns-3 c = rw (ending-inside (c .before .before .before .before .before .before .before .before .before .before .args .p) (now (c .before .before .before .before .before .before .before .before .before .before .args .rest)) (c .before .before .before .before .before .before .before .if1 .left) (λ e. c .before .before .before .before .if3 .taken (c .before .before .before .before .before .rank .ensures ∙ e))) (c .before .before .put-bad2 .ensures)
+returns-3 c =
+    let a = c .before .before .before .before .before .before .before .before .before .before .args in
+    rw (ending-inside (a .p) (now (a .rest)) (c .before .before .before .before .before .before .before .if1 .left) (λ e. c .before .before .before .before .if3 .taken (c .before .before .before .before .before .rank .ensures ∙ e))) (c .before .before .put-bad2 .ensures)
 
 slice-aggregate-put-line : tie.Need-slice-aggregate-put-line
 slice-aggregate-put-line c = search needs
@@ -44,7 +48,9 @@ same-length-3 : tie.Need-same-length-3
 same-length-3 c = search needs
 
 returns-4 : tie.Need-returns-4
-returns-4 c = rw (ending-end (c .before .before .before .before .before .before .before .before .before .before .before .before .args .p) (now (c .before .before .before .before .before .before .before .before .before .before .before .before .args .rest)) (c .before .before .before .before .before .before .before .before .before .if1 .left) (c .before .before .before .before .before .before .before .before .if2 .left) (sym (c .before .before .before .before .before .before .before .rank .ensures) ∙ c .before .before .before .before .before .before .if3 .left)) (c .before .before .put-line .ensures)
+returns-4 c =
+    let a = c .before .before .before .before .before .before .before .before .before .before .before .before .args in
+    rw (ending-end (a .p) (now (a .rest)) (c .before .before .before .before .before .before .before .before .before .if1 .left) (c .before .before .before .before .before .before .before .before .if2 .left) (sym (c .before .before .before .before .before .before .before .rank .ensures) ∙ c .before .before .before .before .before .before .if3 .left)) (c .before .before .put-line .ensures)
 
 pub put-ending-spec : {M : Type 1} → statement M
 put-ending-spec =

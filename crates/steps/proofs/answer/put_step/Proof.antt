@@ -23,7 +23,9 @@ cast-put-line : tie.Need-cast-put-line
 cast-put-line c = search needs
 
 put-line-requires-2 : tie.Need-put-line-requires-2
-put-line-requires-2 c κs = omega (arith, c .before .before .before .before .before .put-line .ensures .end, length-numbered (bytes "step=") (c .before .before .before .before .before .before .before .before .before .args .n), c .before .before .before .before .before .put-line .kept .0, c .before .before .before .before .before .before .before .before .before .pre)
+put-line-requires-2 c κs =
+    let b = c .before .before .before .before .before in
+    omega (arith, b .put-line .ensures .end, length-numbered (bytes "step=") (c .before .before .before .before .before .before .before .before .before .args .n), b .put-line .kept .0, c .before .before .before .before .before .before .before .before .before .pre)
 
 slice-aggregate-put-line-3 : tie.Need-slice-aggregate-put-line-3
 slice-aggregate-put-line-3 c = search needs
@@ -35,7 +37,10 @@ cast-put-line-2 : tie.Need-cast-put-line-2
 cast-put-line-2 c = search needs
 
 put-line-requires-3 : tie.Need-put-line-requires-3
-put-line-requires-3 c κs = omega (arith, c .before .before .before .before .before .before .before .before .before .before .before .put-line .ensures .end, length-numbered (bytes "step=") (c .before .before .before .before .before .before .before .before .before .before .before .before .before .before .before .args .n), c .before .before .before .before .before .before .before .before .before .before .before .put-line .kept .0, c .before .before .before .before .before .put-line2 .ensures .end, length-numbered (bytes "status=") (c .before .before .before .before .before .before .status-of .result), c .before .before .before .before .before .put-line2 .kept .0, c .before .before .before .before .before .before .before .before .before .before .before .before .before .before .before .pre)
+put-line-requires-3 c κs =
+    let b = c .before .before .before .before .before .before .before .before .before .before .before in
+    let b2 = c .before .before .before .before .before in
+    omega (arith, b .put-line .ensures .end, length-numbered (bytes "step=") (c .before .before .before .before .before .before .before .before .before .before .before .before .before .before .before .args .n), b .put-line .kept .0, b2 .put-line2 .ensures .end, length-numbered (bytes "status=") (c .before .before .before .before .before .before .status-of .result), b2 .put-line2 .kept .0, c .before .before .before .before .before .before .before .before .before .before .before .before .before .before .before .pre)
 
 same-length : tie.Need-same-length
 same-length c = search needs

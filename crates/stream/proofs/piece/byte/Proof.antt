@@ -21,7 +21,9 @@ same-length-4 : tie.Need-same-length-4
 same-length-4 c = search needs
 
 returns : tie.Need-returns
-returns c = living-end (c .before .before .before .before .before .before .before .before .before .before .before .before .before .before .before .before .before .before .args .s) _ (now (c .before .before .before .before .before .before .before .before .before .before .before .before .before .before .before .before .before .before .args .line)) _ _ _ _ _ (c .before .before .before .before .before .before .before .before .before .before .before .if1 .taken) (c .before .before .before .before .before .before .line-end .ensures)
+returns c =
+    let a = c .before .before .before .before .before .before .before .before .before .before .before .before .before .before .before .before .before .before .args in
+    living-end (a .s) _ (now (a .line)) _ _ _ _ _ (c .before .before .before .before .before .before .before .before .before .before .before .if1 .taken) (c .before .before .before .before .before .before .line-end .ensures)
 
 push-requires : tie.Need-push-requires
 push-requires c κs = search needs
@@ -30,7 +32,9 @@ same-length-5 : tie.Need-same-length-5
 same-length-5 c = search needs
 
 returns-2 : tie.Need-returns-2
-returns-2 c = let room = c .before .before .before .before .before .before .before .before .before .before .before .before .pre in living-byte (c .before .before .before .before .before .before .before .before .before .before .before .before .args .s) _ (now (c .before .before .before .before .before .before .before .before .before .before .before .before .args .line)) _ _ _ _ _ (c .before .before .before .before .before .if1 .left) (omega arith) (c .before .before .push .kept .0) (c .before .before .push .ensures)
+returns-2 c =
+    let a = c .before .before .before .before .before .before .before .before .before .before .before .before .args in
+    let room = c .before .before .before .before .before .before .before .before .before .before .before .before .pre in living-byte (a .s) _ (now (a .line)) _ _ _ _ _ (c .before .before .before .before .before .if1 .left) (omega arith) (c .before .before .push .kept .0) (c .before .before .push .ensures)
 
 pub byte-spec : {M : Type 1} → statement M
 byte-spec =

@@ -20,7 +20,9 @@ same-length-3 : tie.Need-same-length-3
 same-length-3 c = search needs
 
 returns : tie.Need-returns
-returns c = living-line (c .before .before .before .before .before .before .before .before .before .before .before .before .before .before .before .before .before .before .before .args .s) _ (now (c .before .before .before .before .before .before .before .before .before .before .before .before .before .before .before .before .before .before .before .args .line)) _ _ _ _ _ (c .before .before .before .before .before .before .before .before .first .ensures) (c .before .before .before .before .before .before .before .line-read .ensures)
+returns c =
+    let a = c .before .before .before .before .before .before .before .before .before .before .before .before .before .before .before .before .before .before .before .args in
+    living-line (a .s) _ (now (a .line)) _ _ _ _ _ (c .before .before .before .before .before .before .before .before .first .ensures) (c .before .before .before .before .before .before .before .line-read .ensures)
 
 pub line-end-spec : {M : Type 1} → statement M
 line-end-spec =

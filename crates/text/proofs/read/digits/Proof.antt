@@ -37,7 +37,9 @@ add-n : tie.Need-add-n Inv-loop μ-loop
 add-n c = search needs
 
 returns-3 : tie.Need-returns-3 Inv-loop μ-loop
-returns-3 c = sym (c .before .before .before .before .before .before .loop .inv .2 ∙ (digits-step _ _ (c .before .before .before .before .before .before .loop .i) (omega arith) ∙ rw (le-leb 48 _ (c .before .before .before .if1 .left), le-leb _ 57 (c .before .before .if2 .left), ← (c .before .wide .ensures)) (digits-big _ _ (c .if3 .taken))))
+returns-3 c =
+    let b = c .before .before .before .before .before .before in
+    sym (b .loop .inv .2 ∙ (digits-step _ _ (b .loop .i) (omega arith) ∙ rw (le-leb 48 _ (c .before .before .before .if1 .left), le-leb _ 57 (c .before .before .if2 .left), ← (c .before .wide .ensures)) (digits-big _ _ (c .if3 .taken))))
 
 add-i : tie.Need-add-i Inv-loop μ-loop
 add-i c = search needs
@@ -46,7 +48,9 @@ loop-less : tie.Need-loop-less Inv-loop μ-loop
 loop-less c = search needs
 
 loop-again : tie.Need-loop-again Inv-loop μ-loop
-loop-again c = (omega arith, omega arith, c .before .before .before .before .before .before .loop .inv .2 ∙ (digits-step _ _ (c .before .before .before .before .before .before .loop .i) (omega arith) ∙ rw (le-leb 48 _ (c .before .before .before .if1 .left), le-leb _ 57 (c .before .before .if2 .left), ← (c .before .wide .ensures))))
+loop-again c =
+    let b = c .before .before .before .before .before .before in
+    (omega arith, omega arith, b .loop .inv .2 ∙ (digits-step _ _ (b .loop .i) (omega arith) ∙ rw (le-leb 48 _ (c .before .before .before .if1 .left), le-leb _ 57 (c .before .before .if2 .left), ← (c .before .wide .ensures))))
 
 cast-t11 : tie.Need-cast-t11 Inv-loop μ-loop
 cast-t11 c = search needs

@@ -36,7 +36,9 @@ loop-less : tie.Need-loop-less Inv-loop μ-loop
 loop-less c = search needs
 
 loop-again : tie.Need-loop-again Inv-loop μ-loop
-loop-again c = (omega arith, simp length-set (omega arith), rw (c .before .before .loop .inv .2, add-one) (paste-suc (now (c .before .before .before .args .out)) (c .before .before .before .args .end) (now (c .before .before .before .args .text)) (c .before .before .loop .i) 0 (omega arith) (omega arith)))
+loop-again c =
+    let a = c .before .before .before .args in
+    (omega arith, simp length-set (omega arith), rw (c .before .before .loop .inv .2, add-one) (paste-suc (now (a .out)) (a .end) (now (a .text)) (c .before .before .loop .i) 0 (omega arith) (omega arith)))
 
 add-result : tie.Need-add-result Inv-loop μ-loop
 add-result c = search needs

@@ -14,7 +14,10 @@ put-digits-requires : tie.Need-put-digits-requires
 put-digits-requires c κs = search needs
 
 put-byte-requires : tie.Need-put-byte-requires
-put-byte-requires c κs = omega (arith, c .before .before .before .put-digits .ensures .end, length-digits 20 (c .before .before .before .before .before .before .before .before .before .before .before .args .n), c .before .before .before .put-digits .kept .0, c .before .before .before .before .before .before .before .put .ensures .end, c .before .before .before .before .before .before .before .put .kept .0, c .before .before .before .before .before .before .before .before .before .before .before .pre)
+put-byte-requires c κs =
+    let b = c .before .before .before in
+    let b2 = c .before .before .before .before .before .before .before in
+    omega (arith, b .put-digits .ensures .end, length-digits 20 (c .before .before .before .before .before .before .before .before .before .before .before .args .n), b .put-digits .kept .0, b2 .put .ensures .end, b2 .put .kept .0, c .before .before .before .before .before .before .before .before .before .before .before .pre)
 
 same-length : tie.Need-same-length
 same-length c = search needs
