@@ -1,0 +1,3 @@
+-- What the exported functions promise: the numbers of a request, and the one number of an answer.
+pub mod Numbers
+pub mod Told
