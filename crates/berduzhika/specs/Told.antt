@@ -1,6 +1,6 @@
 -- What an exported function returns and leaves: one number of 64 bits, the status above and the value below, and the lent tables.
 use mathlib.Core.Bool.{Bool, true, false, _&&_}
-use Prim.Native.Nat.{ℕ, _+_, _*_, _^_}
+use Prim.Native.Nat.{ℕ, _+_, _*_, _/_, _%_, _^_}
 use lib.Dec.{eqb}
 use Rattle.types.specs.declared.Shape.{Shape}
 use Rattle.types.specs.declared.Refusal.the-variants as refusal
@@ -18,6 +18,13 @@ joined status value = status * 2 ^ 32 + value
 
 unfoldable pub codeOf : Answer → ℕ
 codeOf a = joined (statusOf a) (valueOf a)
+
+-- what a caller takes out of it
+abbrev pub statusIn : ℕ → ℕ
+statusIn n = n / 2 ^ 32
+
+abbrev pub valueIn : ℕ → ℕ
+valueIn n = n % 2 ^ 32
 
 pub record Told : Type 0 where
   pub code : ℕ

@@ -117,7 +117,7 @@ pub extern "C" fn berduzhika_activate(
         redist_presence,
         shape,
         taker,
-        intid,
+        intid, // as it came: 65836 takes no 300
     ))
 }
 
@@ -150,7 +150,7 @@ pub extern "C" fn berduzhika_deactivate(
         redist_presence,
         shape,
         owner,
-        intid,
+        intid, // as it came: 65836 lets no 300 go
     ))
 }
 

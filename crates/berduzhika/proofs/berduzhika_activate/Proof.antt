@@ -1,4 +1,6 @@
-use mathlib.Core.Path.{sym, _∙_}
+use mathlib.Core.Path.{ap}
+use Rattle.types.specs.declared.Side.{Side}
+use Rattle.meaning.specs.Rule as step
 use Rattle.berduzhika.proofs.Judged.{kept, passed}
 use borrow.Author.Needs.{needs}
 use Rattle.berduzhika.proofs.berduzhika_activate.Statement.{statement}
@@ -11,7 +13,7 @@ gate-requires : tie.Need-gate-requires
 gate-requires c κs = search needs
 
 returns : tie.Need-returns
-returns c = kept _ _ _ _ _ _ (rw (c .before .before .one-or-two .ensures) at (c .before .gate .ensures)) (c .if1 .taken)
+returns c = kept _ _ _ _ _ _ _ (c .before .before .one-or-two .ensures) (c .before .gate .ensures) (c .if1 .taken)
 
 shape-of-requires : tie.Need-shape-of-requires
 shape-of-requires c κs = search needs
@@ -32,7 +34,7 @@ same-length-2 : tie.Need-same-length-2
 same-length-2 c = search needs
 
 returns-2 : tie.Need-returns-2
-returns-2 c = passed _ _ _ _ _ (sym (c .before .before .before .before .before .before .before .before .before .before .if1 .left) ∙ rw (c .before .before .before .before .before .before .before .before .before .before .before .before .one-or-two .ensures) at (c .before .before .before .before .before .before .before .before .before .before .before .gate .ensures)) _ _ _ (c .code-of .ensures) (rw (← (c .before .before .before .before .before .before .before .before .before .shape-of .ensures), ← (c .before .before .before .before .before .before .before .before .side-of .ensures)) (c .before .before .before .before .before .activate .ensures))
+returns-2 c = passed _ _ _ _ _ _ _ (c .before .before .before .before .before .before .before .before .before .before .before .before .one-or-two .ensures) (c .before .before .before .before .before .before .before .before .before .before .before .gate .ensures) (c .before .before .before .before .before .before .before .before .before .before .if1 .left) _ _ (c .before .before .before .before .before .before .before .before .before .shape-of .ensures) (ap (λ (x : Side). step.activate x (c .before .before .before .before .before .before .before .before .before .before .before .before .before .before .before .before .before .args .intid)) (c .before .before .before .before .before .before .before .before .side-of .ensures)) _ _ _ (c .code-of .ensures) (c .before .before .before .before .before .activate .ensures)
 
 pub berduzhika-activate-spec : {M : Type 1} → statement M
 berduzhika-activate-spec =
