@@ -8,7 +8,8 @@ use Rattle.types.specs.declared.Answer.{Answer}
 use Rattle.meaning.specs.Layout.{Tables}
 use Rattle.meaning.specs.Rule.{Step}
 use Rattle.meaning.specs.Step.{Outcome, stepped}
-use Rattle.berduzhika.specs.Told.{codeOf, Told, told, shut, judged}
+use Rattle.numbers.specs.Code.{codeOf, shut}
+use Rattle.berduzhika.specs.Told.{Told, told, judged}
 
 -- Before the gate. `tested` is what the code found of the request's numbers.
 pub kept : (named sound : Bool) (s : Shape) (q : Step) (t : Tables) (n : ℕ) (tested : Bool) → tested ≡ named → n ≡ shut tested sound → (n ≡ 0 → ⊥)

@@ -10,8 +10,9 @@ use Rattle.types.specs.declared.Side.{Side}
 use Rattle.types.specs.declared.Side.the-variants.{Secure, NonSecure}
 use Rattle.meaning.specs.Layout.{Tables}
 use Rattle.meaning.specs.Rule as step
-use Rattle.berduzhika.specs.Numbers.{oneOrTwo, zeroOrOne, side-by, sideOf, shapeOf, requestOf}
-use Rattle.berduzhika.specs.Told.{joined, Told, shut, judged, accessTold, activateTold, deactivateTold}
+use Rattle.numbers.specs.Numbers.{oneOrTwo, zeroOrOne, side-by, sideOf, shapeOf, requestOf}
+use Rattle.numbers.specs.Code.{joined, shut}
+use Rattle.berduzhika.specs.Told.{Told, judged, accessTold, activateTold, deactivateTold}
 
 weight : Side → ℕ
 weight Secure = 1

@@ -13,7 +13,8 @@ use Rattle.meaning.specs.Answers.{number, statusOf, valueOf}
 use Rattle.meaning.specs.Layout.{Tables}
 use Rattle.meaning.specs.Rule.{Step, first-of}
 use Rattle.meaning.specs.Step.{stepped}
-use Rattle.berduzhika.specs.Told.{joined, codeOf, statusIn, valueIn, Told, told, judged}
+use Rattle.numbers.specs.Code.{joined, codeOf, statusIn, valueIn}
+use Rattle.berduzhika.specs.Told.{Told, told, judged}
 use Rattle.berduzhika.proofs.Fits.{value-fits}
 
 -- Two results that both meet a promise are equal: their numbers, and every lent byte.

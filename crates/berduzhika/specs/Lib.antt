@@ -1,3 +1,2 @@
--- What the exported functions promise: the numbers of a request, and the one number of an answer.
-pub mod Numbers
+-- What the exported functions promise.
 pub mod Told

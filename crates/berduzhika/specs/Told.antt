@@ -1,30 +1,13 @@
--- What an exported function returns and leaves: one number of 64 bits, the status above and the value below, and the lent tables.
+-- What an exported function returns and leaves: one number of 64 bits, and the lent tables.
 use mathlib.Core.Bool.{Bool, true, false, _&&_}
-use Prim.Native.Nat.{ℕ, _+_, _*_, _/_, _%_, _^_}
+use Prim.Native.Nat.{ℕ}
 use lib.Dec.{eqb}
 use Rattle.types.specs.declared.Shape.{Shape}
-use Rattle.types.specs.declared.Refusal.the-variants as refusal
-use Rattle.types.specs.declared.Answer.{Answer}
-use Rattle.types.specs.declared.Answer.the-variants.{Refused}
-use Rattle.meaning.specs.Answers.{statusOf, valueOf}
 use Rattle.meaning.specs.Layout.{Tables}
 use Rattle.meaning.specs.Rule as step
 use Rattle.meaning.specs.Step.{Outcome, stepped}
-use Rattle.berduzhika.specs.Numbers.{oneOrTwo, zeroOrOne, sideOf, shapeOf, requestOf}
-
--- THE ANSWER AS ONE NUMBER: status · 2^32 + value
-abbrev pub joined : ℕ → ℕ → ℕ
-joined status value = status * 2 ^ 32 + value
-
-unfoldable pub codeOf : Answer → ℕ
-codeOf a = joined (statusOf a) (valueOf a)
-
--- what a caller takes out of it
-abbrev pub statusIn : ℕ → ℕ
-statusIn n = n / 2 ^ 32
-
-abbrev pub valueIn : ℕ → ℕ
-valueIn n = n % 2 ^ 32
+use Rattle.numbers.specs.Code.{codeOf, shut}
+use Rattle.numbers.specs.Numbers.{oneOrTwo, zeroOrOne, sideOf, shapeOf, requestOf}
 
 pub record Told : Type 0 where
   pub code : ℕ
@@ -32,13 +15,6 @@ pub record Told : Type 0 where
 
 abbrev pub told : Outcome → Told
 told o = record { code = codeOf (o .answered); tables = o .tables }
-
--- Tried before the machine: 10, outside document 01's numbers, where a number of the request names nothing; then document 01's
--- refusal 1, where mbis, a number of the shape, is neither 0 nor 1. 0 lets the request pass.
-unfoldable pub shut : Bool → Bool → ℕ
-shut false sound = joined 10 0
-shut true false = codeOf (Refused refusal.Shape)
-shut true true = 0
 
 -- THE PROMISE: `named` says that the numbers of the request name something, `sound` that mbis is 0 or 1.
 -- Behind the gate it is the meaning's machine; before it every lent byte is as it was.

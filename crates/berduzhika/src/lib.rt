@@ -24,8 +24,6 @@ use numbers::shape_of;
 use numbers::side_of;
 use numbers::zero_or_one;
 
-mod numbers;
-
 // A read or a write of `width` bytes at an offset of a frame. A read ignores `value`.
 #[no_mangle]
 pub extern "C" fn berduzhika_access(

@@ -1,7 +1,7 @@
-use Rattle.berduzhika.specs.Numbers.{requestOf}
+use Rattle.numbers.specs.Numbers.{requestOf}
 use borrow.Author.Needs.{needs}
-use Rattle.berduzhika.proofs.numbers.request_of.Statement.{statement}
-use Rattle.berduzhika.proofs.numbers.request_of.Tie as tie
+use Rattle.numbers.proofs.request_of.Statement.{statement}
+use Rattle.numbers.proofs.request_of.Tie as tie
 
 frame-of-requires : tie.Need-frame-of-requires
 frame-of-requires c κs = search needs

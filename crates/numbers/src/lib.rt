@@ -1,8 +1,8 @@
 // What the numbers of a request stand for, and the number of an answer.
 ghost use mathlib.Core.Path.{_≡_};
 ghost use mathlib.Core.Bool.{_&&_};
-ghost use Rattle.berduzhika.specs.Numbers.{oneOrTwo, zeroOrOne, frameOf, sideOf, wayOf, shapeOf, requestOf};
-ghost use Rattle.berduzhika.specs.Told.{codeOf, shut};
+ghost use Rattle.numbers.specs.Numbers.{oneOrTwo, zeroOrOne, frameOf, sideOf, wayOf, shapeOf, requestOf};
+ghost use Rattle.numbers.specs.Code.{codeOf, shut};
 use controller::answer::status_of;
 use controller::answer::value_of;
 use types::Access;

@@ -1,6 +1,6 @@
 use borrow.Author.Needs.{needs}
-use Rattle.berduzhika.proofs.numbers.names_access.Statement.{statement}
-use Rattle.berduzhika.proofs.numbers.names_access.Tie as tie
+use Rattle.numbers.proofs.names_access.Statement.{statement}
+use Rattle.numbers.proofs.names_access.Tie as tie
 
 one-or-two-requires : tie.Need-one-or-two-requires
 one-or-two-requires c κs = search needs

@@ -1,7 +1,7 @@
 use borrow.Author.Tests.{eq-eqb, ne-eqb}
-use Rattle.berduzhika.specs.Numbers.{wayOf}
-use Rattle.berduzhika.proofs.numbers.way_of.Statement.{statement}
-use Rattle.berduzhika.proofs.numbers.way_of.Tie as tie
+use Rattle.numbers.specs.Numbers.{wayOf}
+use Rattle.numbers.proofs.way_of.Statement.{statement}
+use Rattle.numbers.proofs.way_of.Tie as tie
 
 returns : tie.Need-returns
 unfolding wayOf

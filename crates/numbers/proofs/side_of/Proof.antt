@@ -1,7 +1,7 @@
 use borrow.Author.Tests.{eq-eqb, ne-eqb}
-use Rattle.berduzhika.specs.Numbers.{sideOf}
-use Rattle.berduzhika.proofs.numbers.side_of.Statement.{statement}
-use Rattle.berduzhika.proofs.numbers.side_of.Tie as tie
+use Rattle.numbers.specs.Numbers.{sideOf}
+use Rattle.numbers.proofs.side_of.Statement.{statement}
+use Rattle.numbers.proofs.side_of.Tie as tie
 
 returns : tie.Need-returns
 unfolding sideOf

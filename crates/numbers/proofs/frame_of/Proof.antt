@@ -1,7 +1,7 @@
 use borrow.Author.Tests.{eq-eqb, ne-eqb}
-use Rattle.berduzhika.specs.Numbers.{frameOf}
-use Rattle.berduzhika.proofs.numbers.frame_of.Statement.{statement}
-use Rattle.berduzhika.proofs.numbers.frame_of.Tie as tie
+use Rattle.numbers.specs.Numbers.{frameOf}
+use Rattle.numbers.proofs.frame_of.Statement.{statement}
+use Rattle.numbers.proofs.frame_of.Tie as tie
 
 returns : tie.Need-returns
 unfolding frameOf

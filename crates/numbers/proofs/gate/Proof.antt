@@ -1,8 +1,8 @@
 use borrow.Author.Needs.{needs}
 use borrow.Author.Tests.{not-true, not-false}
-use Rattle.berduzhika.specs.Told.{shut, codeOf}
-use Rattle.berduzhika.proofs.numbers.gate.Statement.{statement}
-use Rattle.berduzhika.proofs.numbers.gate.Tie as tie
+use Rattle.numbers.specs.Code.{shut, codeOf}
+use Rattle.numbers.proofs.gate.Statement.{statement}
+use Rattle.numbers.proofs.gate.Tie as tie
 
 returns : tie.Need-returns
 unfolding shut

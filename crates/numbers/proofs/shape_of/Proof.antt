@@ -1,8 +1,8 @@
 use borrow.Author.Needs.{needs}
 use mathlib.Core.Path.{refl}
-use Rattle.berduzhika.specs.Numbers.{shapeOf}
-use Rattle.berduzhika.proofs.numbers.shape_of.Statement.{statement}
-use Rattle.berduzhika.proofs.numbers.shape_of.Tie as tie
+use Rattle.numbers.specs.Numbers.{shapeOf}
+use Rattle.numbers.proofs.shape_of.Statement.{statement}
+use Rattle.numbers.proofs.shape_of.Tie as tie
 
 returns : tie.Need-returns
 unfolding shapeOf

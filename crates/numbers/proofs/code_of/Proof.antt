@@ -1,7 +1,7 @@
-use Rattle.berduzhika.specs.Told.{codeOf}
+use Rattle.numbers.specs.Code.{codeOf}
 use borrow.Author.Needs.{needs}
-use Rattle.berduzhika.proofs.numbers.code_of.Statement.{statement}
-use Rattle.berduzhika.proofs.numbers.code_of.Tie as tie
+use Rattle.numbers.proofs.code_of.Statement.{statement}
+use Rattle.numbers.proofs.code_of.Tie as tie
 
 status-of-requires : tie.Need-status-of-requires
 status-of-requires c κs = search needs
