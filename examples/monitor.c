@@ -46,27 +46,32 @@ static uint32_t frame_of(uint64_t address, uint32_t *offset) {
     return 0;
 }
 
-static void report(uint64_t answer) {
-    if (berduzhika_status(answer) != BERDUZHIKA_DONE)
-        printf("refused %u\n", (unsigned)berduzhika_status(answer));
-    else
-        printf("done 0x%x\n", (unsigned)berduzhika_value(answer));
-}
-
-/* The handler. A real monitor goes on after the access where it is done, and gives the side an abort where it is refused. */
-static void handle(struct trap *t) {
+/* The handler: 0 where the access is done, and what was read is in the register; else NOT_OURS, or the library's refusal. A real
+ * monitor goes on after the access where it is done, and gives the side an abort where it is refused. */
+#define NOT_OURS 1000u
+static uint32_t handle(struct trap *t) {
     uint32_t offset;
     uint32_t frame = frame_of(t->address, &offset);
-    if (frame == 0) {
-        printf("not ours\n");
-        return;
-    }
+    if (frame == 0)
+        return NOT_OURS;
     /* A store of at most 4 bytes carries the low half of its register; one of 8 is refused by its width. */
     uint64_t answer = berduzhika_access(BOX, frame, t->side, t->way, t->size, offset, (uint32_t)(t->reg & 0xffffffffu));
     if (berduzhika_status(answer) == BERDUZHIKA_DONE && t->way == BERDUZHIKA_READ)
         t->reg = berduzhika_value(answer);
-    report(answer);
+    return berduzhika_status(answer);
 }
+
+/* From here on: the traps as text. */
+static void report(uint32_t status, uint64_t value) {
+    if (status == NOT_OURS)
+        printf("not ours\n");
+    else if (status != BERDUZHIKA_DONE)
+        printf("refused %u\n", (unsigned)status);
+    else
+        printf("done 0x%llx\n", (unsigned long long)value);
+}
+
+static void report_event(uint64_t answer) { report(berduzhika_status(answer), berduzhika_value(answer)); }
 
 /* A word that is no side is 0, which the library refuses. */
 static uint32_t side_of(const char *word) {
@@ -84,7 +89,8 @@ static int access_line(const char *line) {
     if (words != (write ? 5 : 4) || (!write && strcmp(op, "read") != 0))
         return 0;
     struct trap t = {address, size, write ? BERDUZHIKA_WRITE : BERDUZHIKA_READ, side_of(side), value};
-    handle(&t);
+    uint32_t status = handle(&t);
+    report(status, write ? 0 : t.reg);
     return 1;
 }
 
@@ -92,13 +98,13 @@ static int event_line(const char *line) {
     char side[8];
     unsigned intid, level;
     if (sscanf(line, "wire %u %u", &intid, &level) == 2)
-        report(berduzhika_wire(BOX, intid, level));
+        report_event(berduzhika_wire(BOX, intid, level));
     else if (sscanf(line, "activate %7s %u", side, &intid) == 2)
-        report(berduzhika_activate(BOX, side_of(side), intid));
+        report_event(berduzhika_activate(BOX, side_of(side), intid));
     else if (sscanf(line, "deactivate %7s %u", side, &intid) == 2)
-        report(berduzhika_deactivate(BOX, side_of(side), intid));
+        report_event(berduzhika_deactivate(BOX, side_of(side), intid));
     else if (strcmp(line, "reset\n") == 0)
-        report(berduzhika_reset(BOX));
+        report_event(berduzhika_reset(BOX));
     else
         return 0;
     return 1;

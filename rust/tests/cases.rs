@@ -133,6 +133,22 @@ fn refusals_by_name() {
 }
 
 #[test]
+fn a_missing_interrupt_reads_zero_and_is_left() {
+    let mut c = bench(&[(300, 0x22)]);
+    c.tables.dist_presence[8] &= !0x1000;
+    let before = c.clone();
+    assert_eq!(read(&mut c, Side::Secure, 0x224), Ok(0));
+    let high = Event::Wire {
+        intid: 300,
+        level: true,
+    };
+    assert_eq!(c.event(high), Err(Refusal::Intid));
+    let clear = Access::write(Frame::Dist, Side::Secure, 4, 0x2A4, u32::MAX);
+    assert_eq!(c.access(clear), Ok(0));
+    assert_eq!(c, before);
+}
+
+#[test]
 fn a_refusal_says_its_number() {
     assert_eq!(Refusal::State.to_string(), "refused 9 (State)");
     assert_eq!(Refusal::Nameless.number(), 10);
