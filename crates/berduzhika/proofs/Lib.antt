@@ -1,0 +1,4 @@
+pub mod Judged
+pub mod Fits
+pub mod Unique
+pub mod Stray

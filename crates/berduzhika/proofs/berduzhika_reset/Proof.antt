@@ -1,0 +1,42 @@
+use mathlib.Core.Path.{refl}
+use Rattle.berduzhika.proofs.Judged.{kept, passed}
+use borrow.Author.Needs.{needs}
+use Rattle.berduzhika.proofs.berduzhika_reset.Statement.{statement}
+use Rattle.berduzhika.proofs.berduzhika_reset.Tie as tie
+
+gate-requires : tie.Need-gate-requires
+gate-requires c κs = search needs
+
+returns : tie.Need-returns
+returns c = kept _ _ _ _ _ _ _ (refl) (c .before .gate .ensures) (c .if1 .taken)
+
+shape-of-requires : tie.Need-shape-of-requires
+shape-of-requires c κs = search needs
+
+reset-requires : tie.Need-reset-requires
+reset-requires c κs = search needs
+
+code-of-requires : tie.Need-code-of-requires
+code-of-requires c κs = search needs
+
+same-length : tie.Need-same-length
+same-length c = search needs
+
+same-length-2 : tie.Need-same-length-2
+same-length-2 c = search needs
+
+returns-2 : tie.Need-returns-2
+returns-2 c = passed _ _ _ _ _ _ _ (refl) (c .before .before .before .before .before .before .before .before .before .before .gate .ensures) (c .before .before .before .before .before .before .before .before .before .if1 .left) _ _ (c .before .before .before .before .before .before .before .before .shape-of .ensures) (refl) _ _ _ (c .code-of .ensures) (c .before .before .before .before .before .reset .ensures)
+
+pub berduzhika-reset-spec : {M : Type 1} → statement M
+berduzhika-reset-spec =
+    tie.close
+    (tie.spec
+    gate-requires
+    returns
+    shape-of-requires
+    reset-requires
+    code-of-requires
+    same-length
+    same-length-2
+    returns-2)
