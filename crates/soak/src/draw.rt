@@ -6,11 +6,10 @@ use crate::table::home_of;
 use crate::table::intid_of;
 use types::Shape;
 
-// A step. `kind`: 0 access, 1 wire, 2 activate, 3 deactivate, 4 reset. Side 1 is Non-secure, way 1 a write, frame 1 the
-// Redistributor. `class` is what it is counted as: 0 to 26 the families by column, 27 TYPER, 28 to 31 the message registers,
-// 32 anywhere, 33 to 36 the events and reset.
+// A step. `class` says what it is, and it is counted by it: 0 to 26 the families by column, 27 TYPER, 28 to 31 the message
+// registers, 32 anywhere, 33 wire, 34 activate, 35 deactivate, 36 reset. Side 1 is Non-secure, way 1 a write or a wire that goes
+// high, frame 1 the Redistributor. What a step does not name is 0.
 pub struct Request {
-    pub kind: u32,
     pub class: u32,
     pub side: u32,
     pub way: u32,
@@ -19,7 +18,6 @@ pub struct Request {
     pub offset: u32,
     pub value: u32,
     pub intid: u32,
-    pub level: u32,
 }
 
 // The four numbers of a step.
@@ -127,34 +125,34 @@ pub fn off_of(n: Numbers) -> u32 {
     if off < 14 { off + 1 } else { 0 }
 }
 
-fn event(n: Numbers, kind: u32, intid: u32) -> Request {
+fn event(class: u32, side: u32, way: u32, intid: u32) -> Request {
     Request {
-        kind,
-        class: 32 + kind % 8,
-        side: word(n.a >> 16) % 2,
-        way: 0,
+        class,
+        side,
+        way,
         frame: 0,
         width: 0,
         offset: 0,
         value: 0,
         intid,
-        level: word(n.e >> 8) % 2,
     }
 }
 
 fn access(n: Numbers, class: u32, frame: u32, width: u32, offset: u32, value: u32) -> Request {
     Request {
-        kind: 0,
         class,
-        side: word(n.a >> 16) % 2,
+        side: side_of(n),
         way: if word(n.a >> 20) % 8 < 3 { 0 } else { 1 },
         frame,
         width,
         offset,
         value,
         intid: 0,
-        level: 0,
     }
+}
+
+fn side_of(n: Numbers) -> u32 {
+    word(n.a >> 16) % 2
 }
 
 fn near(shape: Shape, which: u32, any: u32) -> u32 {
@@ -290,38 +288,41 @@ fn family(home: u32, n: Numbers) -> Request {
     )
 }
 
+// A wire, an activation, a deactivation or a reset.
+fn happening(kind: u32, n: Numbers, intid: u32) -> Request {
+    if kind < 8 {
+        return event(33, 0, word(n.e >> 8) % 2, intid);
+    }
+    if kind < 14 {
+        return event(34, side_of(n), 0, intid);
+    }
+    if kind < 19 {
+        event(35, side_of(n), 0, intid)
+    } else {
+        event(36, 0, 0, 0)
+    }
+}
+
 // Of 64 steps about 8 are wires, 6 activations, 5 deactivations, one TYPER or (1 in 32) reset, 6 messages, 4 anywhere, 34 words of
 // a family.
-pub fn drawn(t: Table, n: Numbers) -> Request {
-    let kind = word(n.a >> 8) % 64;
-    let home = home_of(t, word(n.a >> 4) % 4);
-    let shape = t.shape;
+fn chosen(kind: u32, shape: Shape, home: u32, n: Numbers) -> Request {
+    if kind >= 30 {
+        return family(home, n);
+    }
+    if kind >= 26 {
+        return anywhere(n);
+    }
     let intid = named(shape, home, n);
-    if kind < 19 {
-        return event(
-            n,
-            if kind < 8 {
-                1
-            } else if kind < 14 {
-                2
-            } else {
-                3
-            },
-            intid,
-        );
-    }
-    if kind == 19 {
-        if word(n.a >> 24) % 32 == 0 {
-            return event(n, 4, 0);
-        }
-        return access(n, 27, 0, 4, 4, word(n.c >> 8));
-    }
-    if kind < 26 {
+    if kind >= 20 {
         return message(intid, n);
     }
-    if kind < 30 {
-        anywhere(n)
-    } else {
-        family(home, n)
+    if (kind == 19) & (word(n.a >> 24) % 32 != 0) {
+        return access(n, 27, 0, 4, 4, word(n.c >> 8));
     }
+    happening(kind, n, intid)
+}
+
+pub fn drawn(t: Table, n: Numbers) -> Request {
+    let home = home_of(t, word(n.a >> 4) % 4);
+    chosen(word(n.a >> 8) % 64, t.shape, home, n)
 }

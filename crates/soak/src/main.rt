@@ -13,10 +13,10 @@ use lent::fill_records;
 use print::field;
 use print::hex;
 use print::line_end;
-use print::small;
 use random::next;
 use std::num::wrapping_add_u64;
 use table::Table;
+use types::Shape;
 
 mod counts;
 mod draw;
@@ -85,7 +85,32 @@ fn digested(run: Run, now: u64) -> Run {
     }
 }
 
-// One step: drawn, taken, counted, digested where it is due, shown where it is asked for.
+// One step: drawn, taken and counted; shown where that is asked for.
+fn taken(
+    d: &mut [u8],
+    r: &mut [u8],
+    dp: &[u32],
+    rp: &[u32],
+    counts: &mut [u64],
+    t: Table,
+    shown: bool,
+    before: Run,
+) -> Run {
+    let n = four_of(before.x);
+    let q = draw::drawn(t, n);
+    let off = off_of(n);
+    let answer = step::take(d, r, dp, rp, t.shape, off, q);
+    let status = status_of(answer);
+    let value = value_of(answer);
+    count(counts, q, status);
+    let run = answered(before, n.e, status, value);
+    if shown {
+        show::show(run.number, q, off, status, value);
+    }
+    run
+}
+
+// A step, and the tables' digest where it is due.
 fn one(
     d: &mut [u8],
     r: &mut [u8],
@@ -96,20 +121,12 @@ fn one(
     t: Table,
     before: Run,
 ) -> Run {
-    let n = four_of(before.x);
-    let q = draw::drawn(t, n);
-    let off = off_of(n);
-    let answer = step::take(d, r, dp, rp, t.shape, off, q);
-    let status = status_of(answer);
-    let value = value_of(answer);
-    count(counts, q, status);
-    let mut run = answered(before, n.e, status, value);
+    let mut run = taken(d, r, dp, rp, counts, t, plan.show, before);
     if plan::due(plan, run.number) {
         run = digested(run, digest(d, r, dp, rp));
     }
     if plan.show {
-        field(b"step=", run.number);
-        show::show(q, off, status, value, run.last);
+        show::show_digest(run.last);
     }
     run
 }
@@ -133,13 +150,14 @@ fn steps(
     run
 }
 
-fn print_table(number: u64, t: Table, run: Run) {
-    let shape = t.shape;
-    field(b"table=", number);
-    small(b" lines=", shape.lines);
-    small(b" espi=", shape.espi);
-    small(b" eppi=", shape.eppi);
-    small(b" mbis=", if shape.mbis { 1 } else { 0 });
+fn print_shape(shape: Shape) {
+    field(b" lines=", shape.lines as u64);
+    field(b" espi=", shape.espi as u64);
+    field(b" eppi=", shape.eppi as u64);
+    field(b" mbis=", if shape.mbis { 1 } else { 0 });
+}
+
+fn print_run(run: Run) {
     field(b" done=", run.done);
     field(b" refused=", run.refused);
     field(b" changed=", run.changed);
@@ -160,7 +178,9 @@ fn one_table(
     let t = table::begun(number);
     let first = begin(d, r, dp, rp, t);
     let run = steps(d, r, dp, rp, counts, plan, t, first);
-    print_table(number, t, run);
+    field(b"table=", number);
+    print_shape(t.shape);
+    print_run(run);
 }
 
 fn tables(

@@ -1,54 +1,30 @@
-// One step as a line, for those who look for the first difference.
+// One step as a line of numbers, for those who look for the first difference (docs/SOAK.md has their order).
 use crate::draw::Request;
+use crate::print::field;
 use crate::print::hex;
 use crate::print::line_end;
-use crate::print::small;
-use crate::print::text;
-
-// One word or the other.
-fn either(first: bool, a: &[u8], b: &[u8]) {
-    if first { text(a) } else { text(b) }
-}
-
-fn access(q: Request) {
-    either(q.way == 0, b" read frame=", b" write frame=");
-    either(q.frame == 0, b"dist", b"redist");
-    either(q.side == 0, b" sec=s", b" sec=ns");
-    small(b" width=", q.width);
-    small(b" offset=", q.offset);
-    small(b" value=", q.value);
-}
-
-fn wire(q: Request) {
-    small(b" wire intid=", q.intid);
-    small(b" level=", q.level);
-}
-
-fn event(q: Request) {
-    either(q.kind == 2, b" activate", b" deactivate");
-    either(q.side == 0, b" sec=s", b" sec=ns");
-    small(b" intid=", q.intid);
-}
+use crate::print::spaced;
 
 fn request(q: Request) {
-    let kind = q.kind;
-    if kind == 0 {
-        return access(q);
-    }
-    if kind == 1 {
-        return wire(q);
-    }
-    if kind == 4 {
-        return text(b" reset");
-    }
-    event(q)
+    spaced(q.class);
+    spaced(q.side);
+    spaced(q.way);
+    spaced(q.frame);
+    spaced(q.width);
+    spaced(q.offset);
+    spaced(q.value);
+    spaced(q.intid);
 }
 
-pub fn show(q: Request, off: u32, status: u32, value: u32, tables: u64) {
+pub fn show(number: u64, q: Request, off: u32, status: u32, value: u32) {
+    field(b"step ", number);
     request(q);
-    small(b" off=", off);
-    small(b" status=", status);
-    small(b" answer=", value);
-    hex(b" tables=", tables);
+    spaced(off);
+    spaced(status);
+    spaced(value);
+}
+
+pub fn show_digest(tables: u64) {
+    hex(b" ", tables);
     line_end();
 }

@@ -28,21 +28,25 @@ fn access_of(q: Request) -> Access {
     Access::write(frame, side, q.width, q.offset, q.value)
 }
 
+fn happen(d: &mut [u8], r: &mut [u8], dp: &[u32], rp: &[u32], shape: Shape, q: Request) -> Answer {
+    let side = side_of(q.side);
+    if q.class == 33 {
+        return controller::wire(d, r, dp, rp, shape, q.intid, q.way == 1);
+    }
+    if q.class == 34 {
+        return controller::activate(d, r, dp, rp, shape, side, q.intid);
+    }
+    controller::deactivate(d, r, dp, rp, shape, side, q.intid)
+}
+
 fn apply(d: &mut [u8], r: &mut [u8], dp: &[u32], rp: &[u32], shape: Shape, q: Request) -> Answer {
-    let kind = q.kind;
-    if kind == 0 {
+    if q.class < 33 {
         return controller::access(d, r, dp, rp, shape, access_of(q));
     }
-    if kind == 1 {
-        return controller::wire(d, r, dp, rp, shape, q.intid, q.level == 1);
+    if q.class == 36 {
+        return controller::reset(d, r, dp, rp, shape);
     }
-    if kind == 2 {
-        return controller::activate(d, r, dp, rp, shape, side_of(q.side), q.intid);
-    }
-    if kind == 3 {
-        return controller::deactivate(d, r, dp, rp, shape, side_of(q.side), q.intid);
-    }
-    controller::reset(d, r, dp, rp, shape)
+    happen(d, r, dp, rp, shape, q)
 }
 
 // The length that a table is lent with: one short where `off` is `short`, one long where it is the number after.
@@ -70,27 +74,21 @@ fn within_words(n: usize, b: &[u32]) -> usize
     if n <= b.len() { n } else { b.len() }
 }
 
-// The shape with one number off its limit, for `off` from 9 on.
+// A shape number, or one past its limit where `off` is `first`, or the largest there is where it is `second`.
+fn passed(n: u32, past: u32, off: u32, first: u32, second: u32) -> u32 {
+    if off == first {
+        return past;
+    }
+    if off == second { 4294967295 } else { n }
+}
+
 fn shape_off(shape: Shape, off: u32) -> Shape {
-    if off == 9 {
-        return Shape::new(32, shape.espi, shape.eppi, shape.mbis);
-    }
-    if off == 10 {
-        return Shape::new(shape.lines, 33, shape.eppi, shape.mbis);
-    }
-    if off == 11 {
-        return Shape::new(shape.lines, shape.espi, 3, shape.mbis);
-    }
-    if off == 12 {
-        return Shape::new(4294967295, shape.espi, shape.eppi, shape.mbis);
-    }
-    if off == 13 {
-        return Shape::new(shape.lines, 4294967295, shape.eppi, shape.mbis);
-    }
-    if off == 14 {
-        return Shape::new(shape.lines, shape.espi, 4294967295, shape.mbis);
-    }
-    shape
+    Shape::new(
+        passed(shape.lines, 32, off, 9, 12),
+        passed(shape.espi, 33, off, 10, 13),
+        passed(shape.eppi, 3, off, 11, 14),
+        shape.mbis,
+    )
 }
 
 // One step, with what `off` says off its limit for this step alone.

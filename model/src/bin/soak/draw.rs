@@ -16,13 +16,14 @@ pub struct Drawn {
     pub x: u64,
 }
 
-pub const TYPER: usize = 27;
-pub const MESSAGE: usize = 28;
-pub const ANYWHERE: usize = 32;
-pub const WIRE: usize = 33;
-pub const ACTIVATE: usize = 34;
-pub const DEACTIVATE: usize = 35;
-pub const RESET: usize = 36;
+const TYPER: usize = 27;
+const MESSAGE: usize = 28;
+const ANYWHERE: usize = 32;
+const WIRE: usize = 33;
+const ACTIVATE: usize = 34;
+const DEACTIVATE: usize = 35;
+const RESET: usize = 36;
+pub const CLASSES: usize = 37;
 
 /// First words by column, as document 01's table has them; ICFGR is the last of each.
 const BASES: [u32; 27] = [
@@ -80,7 +81,7 @@ fn request(shape: Shape, home: Home, n: &Numbers) -> (usize, Step) {
         }
         8..=13 => (ACTIVATE, Step::Activate { side, intid }),
         14..=18 => (DEACTIVATE, Step::Deactivate { side, intid }),
-        19 if word(n.a >> 24) % 32 == 0 => (RESET, Step::Reset),
+        19 if word(n.a >> 24).is_multiple_of(32) => (RESET, Step::Reset),
         19 => (TYPER, access(n, Frame::Distributor, 4, 4, word(n.c >> 8))),
         20..=25 => message(intid, n),
         26..=29 => (ANYWHERE, anywhere(n)),
@@ -139,7 +140,7 @@ fn message(intid: u32, n: &Numbers) -> (usize, Step) {
         0 => 2,
         _ => 4,
     };
-    let value = intid % 8192 | (word(n.c >> 8) & 0xFFFF_E000);
+    let value = (intid % 8192) | (word(n.c >> 8) & 0xFFFF_E000);
     let step = access(n, Frame::Distributor, width, 0x40 + 8 * which, value);
     (MESSAGE + which as usize, step)
 }
@@ -170,7 +171,7 @@ fn anywhere(n: &Numbers) -> Step {
 /// Redistributor among them; 1 in 64 at width 2.
 fn family(home: Home, n: &Numbers) -> (usize, Step) {
     let family = word(n.b >> 4) % 9;
-    let elsewhere = word(n.b >> 8) % 16 == 0;
+    let elsewhere = word(n.b >> 8).is_multiple_of(16);
     let at = if elsewhere { wander(n, home) } else { home };
     let frame = match at.column {
         2 => Frame::Redistributor,

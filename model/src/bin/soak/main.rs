@@ -99,7 +99,7 @@ fn run_table(
         let answer = plan.wrong.spoil(table, drawn.step, answer);
         run.answered(answer);
         counts.add(&drawn, answer);
-        if number % plan.every == 0 || number == plan.steps {
+        if number.is_multiple_of(plan.every) || number == plan.steps {
             run.digested(table.digest());
         }
         if plan.show {

@@ -1,4 +1,4 @@
-//! One step as a line, for those who look for the first difference.
+//! One step as a line of numbers, for those who look for the first difference.
 
 use std::io::{self, Write};
 
@@ -13,48 +13,43 @@ pub fn show(
     answer: Answer,
     tables: u64,
 ) -> io::Result<()> {
-    write!(out, "step={number} ")?;
-    request(out, drawn.step)?;
-    write!(out, " off={} status={}", drawn.off, answer.status)?;
-    writeln!(out, " answer={} tables={tables:016x}", answer.value)
-}
-
-fn request(out: &mut impl Write, step: Step) -> io::Result<()> {
-    match step {
+    let (side, way) = (side(drawn.step), way(drawn.step));
+    write!(out, "step {number} {} {side} {way}", drawn.class)?;
+    match drawn.step {
         Step::Access {
             frame,
-            side,
-            write,
             width,
             offset,
             value,
+            ..
         } => {
-            let way = if write { "write" } else { "read" };
-            let frame = frame_name(frame);
-            write!(out, "{way} frame={frame} sec={} width={width}", name(side))?;
-            write!(out, " offset={offset} value={value}")
+            let frame = u8::from(frame == Frame::Redistributor);
+            write!(out, " {frame} {width} {offset} {value} 0")?;
         }
-        Step::Wire { intid, level } => write!(out, "wire intid={intid} level={}", u8::from(level)),
-        Step::Activate { side, intid } => {
-            write!(out, "activate sec={} intid={intid}", name(side))
+        Step::Wire { intid, .. }
+        | Step::Activate { intid, .. }
+        | Step::Deactivate { intid, .. } => write!(out, " 0 0 0 0 {intid}")?,
+        Step::Reset => write!(out, " 0 0 0 0 0")?,
+    }
+    write!(out, " {} {} {}", drawn.off, answer.status, answer.value)?;
+    writeln!(out, " {tables:016x}")
+}
+
+/// 1 for the Non-secure side; 0 for steps that name none.
+pub fn side(step: Step) -> usize {
+    match step {
+        Step::Access { side, .. } | Step::Activate { side, .. } | Step::Deactivate { side, .. } => {
+            usize::from(side == Side::NonSecure)
         }
-        Step::Deactivate { side, intid } => {
-            write!(out, "deactivate sec={} intid={intid}", name(side))
-        }
-        Step::Reset => write!(out, "reset"),
+        Step::Wire { .. } | Step::Reset => 0,
     }
 }
 
-fn frame_name(frame: Frame) -> &'static str {
-    match frame {
-        Frame::Distributor => "dist",
-        Frame::Redistributor => "redist",
-    }
-}
-
-fn name(side: Side) -> &'static str {
-    match side {
-        Side::Secure => "s",
-        Side::NonSecure => "ns",
+/// 1 for a write, and for a wire that goes high.
+pub fn way(step: Step) -> usize {
+    match step {
+        Step::Access { write, .. } => usize::from(write),
+        Step::Wire { level, .. } => usize::from(level),
+        _ => 0,
     }
 }

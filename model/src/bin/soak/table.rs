@@ -54,7 +54,7 @@ impl Table {
             lines: limit(a, 31, 9),
             espi: limit(b, 32, 4),
             eppi: word(c >> 8) % 3,
-            mbis: word(c >> 16) % 4 != 0,
+            mbis: !word(c >> 16).is_multiple_of(4),
         };
         let (homes, x) = draw_homes(shape, c);
         let mut fill = Fill(x);
@@ -213,7 +213,7 @@ impl Fill {
             let any = (self.0 >> 24) as u8;
             bytes.push(match mode {
                 0 => 0,
-                1 => any % 128 | 64,
+                1 => (any % 128) | 64,
                 _ => any,
             });
         }

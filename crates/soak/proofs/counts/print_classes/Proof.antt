@@ -1,19 +1,19 @@
 use Prim.Native.Nat.{_≤_, _-_}
 use borrow.Author.Needs.{needs}
-use Rattle.soak.proofs.counts.print_accesses.Statement.{statement}
-use Rattle.soak.proofs.counts.print_accesses.Tie as tie
+use Rattle.soak.proofs.counts.print_classes.Statement.{statement}
+use Rattle.soak.proofs.counts.print_classes.Tie as tie
 
 abbrev Inv-loop : tie.InvT-loop
-Inv-loop counts class₀ class = class ≤ 33
+Inv-loop counts class₀ class = class ≤ 37
 
 abbrev μ-loop : tie.MeasureT-loop
-μ-loop counts class₀ class = 33 - class
+μ-loop counts class₀ class = 37 - class
 
 loop-holds : tie.Need-loop-holds Inv-loop μ-loop
 loop-holds c = search needs
 
-print-access-requires : tie.Need-print-access-requires Inv-loop μ-loop
-print-access-requires c κs = search needs
+print-class-requires : tie.Need-print-class-requires Inv-loop μ-loop
+print-class-requires c κs = search needs
 
 add-class : tie.Need-add-class Inv-loop μ-loop
 add-class c = search needs
@@ -27,14 +27,14 @@ loop-again c = search needs
 returns : tie.Need-returns Inv-loop μ-loop
 returns c = search needs
 
-pub print-accesses-spec : {M : Type 1} → statement M
-print-accesses-spec =
+pub print-classes-spec : {M : Type 1} → statement M
+print-classes-spec =
     tie.close
     (tie.spec
     Inv-loop
     μ-loop
     loop-holds
-    print-access-requires
+    print-class-requires
     add-class
     loop-less
     loop-again
