@@ -1,7 +1,8 @@
 //! Inputs of the bench replay for measuring, always the same: `mix KIND STEPS
 //! [SHAPE]` to standard output (docs/PERFORMANCE.md).
 //!
-//! KIND is mixed, refused, typer, message, or a family and a way, as ispendr-write.
+//! KIND is mixed, first, refused, typer, message, or a family and a way, as
+//! ispendr-write.
 //! SHAPE is bench (as document 01 has it), smallest or largest.
 
 use std::io::{self, BufWriter, Write};
@@ -106,10 +107,24 @@ fn mixed(random: &mut Random, shape: Shape) -> Access {
     }
 }
 
+/// Any family at Redistributor word 0, whose interrupts are in every shape's range.
+fn first(random: &mut Random) -> Access {
+    let family = random.below(9) as usize;
+    let word = if family == 8 { random.below(2) } else { 0 };
+    Access {
+        write: random.once_in(2),
+        redist: true,
+        secure: random.once_in(4),
+        width: 4,
+        offset: FAMILIES[family].1[2] + 4 * word,
+    }
+}
+
 /// The accesses of one file.
 #[derive(Clone, Copy)]
 enum Kind {
     Mixed,
+    First,
     Refused,
     Typer,
     Message,
@@ -119,6 +134,7 @@ enum Kind {
 fn kind_of(name: &str) -> Option<Kind> {
     match name {
         "mixed" => return Some(Kind::Mixed),
+        "first" => return Some(Kind::First),
         "refused" => return Some(Kind::Refused),
         "typer" => return Some(Kind::Typer),
         "message" => return Some(Kind::Message),
@@ -136,6 +152,7 @@ fn kind_of(name: &str) -> Option<Kind> {
 fn next(random: &mut Random, shape: Shape, kind: Kind) -> Access {
     match kind {
         Kind::Mixed => mixed(random, shape),
+        Kind::First => first(random),
         // 0x10C0 is listed nowhere: refusal 5, so that the text is all the work.
         Kind::Refused => place(random, true, 4, 0x10C0),
         Kind::Typer => place(random, false, 4, 4),
