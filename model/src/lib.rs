@@ -11,6 +11,7 @@
 pub mod answer;
 pub mod interrupt;
 pub mod machine;
+pub mod random;
 pub mod registers;
 pub mod replay;
 pub mod shape;

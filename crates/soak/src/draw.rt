@@ -1,0 +1,328 @@
+// What a step asks for. Each step takes four numbers of the stream, whatever it is.
+use crate::random::next;
+use crate::random::word;
+use crate::table::Table;
+use crate::table::home_of;
+use crate::table::intid_of;
+use types::Shape;
+
+// A step. `class` says what it is, and it is counted by it: 0 to 26 the families by column, 27 TYPER, 28 to 31 the message
+// registers, 32 anywhere, 33 wire, 34 activate, 35 deactivate, 36 reset. Side 1 is Non-secure, way 1 a write or a wire that goes
+// high, frame 1 the Redistributor. What a step does not name is 0.
+pub struct Request {
+    pub class: u32,
+    pub side: u32,
+    pub way: u32,
+    pub frame: u32,
+    pub width: u32,
+    pub offset: u32,
+    pub value: u32,
+    pub intid: u32,
+}
+
+// The four numbers of a step.
+pub struct Numbers {
+    pub a: u64,
+    pub b: u64,
+    pub c: u64,
+    pub e: u64,
+}
+
+// First words by column, as document 01's table has them; ICFGR is the last of each.
+const BASES: [u32; 27] = [
+    0x080,
+    0x100,
+    0x180,
+    0x200,
+    0x280,
+    0x300,
+    0x380,
+    0xD00,
+    0xC00, //
+    0x1000,
+    0x1200,
+    0x1400,
+    0x1600,
+    0x1800,
+    0x1A00,
+    0x1C00,
+    0x3400,
+    0x3000, //
+    0x080,
+    0x100,
+    0x180,
+    0x200,
+    0x280,
+    0x300,
+    0x380,
+    0xD00,
+    0xC00,
+];
+
+const INTIDS: [u32; 24] = [
+    0,
+    15,
+    16,
+    31,
+    32,
+    319,
+    320,
+    1019,
+    1020,
+    1023,
+    1055,
+    1056,
+    1087,
+    1088,
+    1119,
+    1120,
+    4095,
+    4096,
+    4223,
+    4224,
+    5119,
+    5120,
+    65836,
+    4294967295,
+];
+
+const OFFSETS: [u32; 20] = [
+    0x0000,
+    0xFFFC,
+    0x10000,
+    0x10001,
+    0x226,
+    0x224,
+    0x40,
+    0x41,
+    0x42,
+    0x44,
+    0x48,
+    0x50,
+    0x58,
+    0x5A,
+    0x08C,
+    0xC14,
+    0xC18,
+    0xD0C,
+    4294967292,
+    4294967295,
+];
+
+const WIDTHS: [u32; 8] = [2, 4, 4, 2, 1, 0, 3, 8];
+
+pub fn four_of(x: u64) -> Numbers {
+    let a = next(x);
+    let b = next(a);
+    let c = next(b);
+    let e = next(c);
+    Numbers { a, b, c, e }
+}
+
+// What is off its limit for this step alone: 0 nothing, 1 to 8 a table's length, 9 to 14 a shape number.
+pub fn off_of(n: Numbers) -> u32 {
+    let off = word(n.e >> 40) % 512;
+    if off < 14 { off + 1 } else { 0 }
+}
+
+fn event(class: u32, side: u32, way: u32, intid: u32) -> Request {
+    Request {
+        class,
+        side,
+        way,
+        frame: 0,
+        width: 0,
+        offset: 0,
+        value: 0,
+        intid,
+    }
+}
+
+fn access(n: Numbers, class: u32, frame: u32, width: u32, offset: u32, value: u32) -> Request {
+    Request {
+        class,
+        side: side_of(n),
+        way: if word(n.a >> 20) % 8 < 3 { 0 } else { 1 },
+        frame,
+        width,
+        offset,
+        value,
+        intid: 0,
+    }
+}
+
+fn side_of(n: Numbers) -> u32 {
+    word(n.a >> 16) % 2
+}
+
+fn near(shape: Shape, which: u32, any: u32) -> u32 {
+    let pair = which / 2;
+    let past = which % 2;
+    if pair == 0 {
+        return 32 * (shape.lines % 32) + 31 + past;
+    }
+    if pair == 1 {
+        return 1055 + 32 * (shape.eppi % 4) + past;
+    }
+    if pair == 2 {
+        return 4095 + 32 * (shape.espi % 64) + past;
+    }
+    if past == 0 { any } else { any % 5200 }
+}
+
+fn edge(k: u32) -> u32 {
+    INTIDS[(k % 24) as usize]
+}
+
+// An INTID: the home's (5 of 8), one of its word, an edge, or one near the shape's limits.
+fn named(shape: Shape, home: u32, n: Numbers) -> u32 {
+    let which = word(n.c >> 4) % 8;
+    if which < 5 {
+        return intid_of(home);
+    }
+    if which == 5 {
+        return intid_of(home / 32 % 128 * 32 + word(n.b >> 24) % 32);
+    }
+    if which == 6 {
+        return edge(word(n.b >> 24));
+    }
+    near(shape, word(n.b >> 32) % 8, word(n.e >> 16))
+}
+
+// SETSPI and CLRSPI, with anything in the value's bits above 12.
+fn message(intid: u32, n: Numbers) -> Request {
+    let which = word(n.b >> 4) % 4;
+    let width = if word(n.b >> 8) % 2 == 0 { 2 } else { 4 };
+    let value = (intid % 8192) | (word(n.c >> 8) & 0xFFFFE000);
+    access(n, 28 + which, 0, width, 0x40 + 8 * which, value)
+}
+
+fn any_offset(which: u32, any: u32) -> u32 {
+    if which < 20 {
+        return OFFSETS[(which % 20) as usize];
+    }
+    if which < 24 {
+        return any % 65536;
+    }
+    if which < 28 {
+        return 4 * (any % 4096);
+    }
+    if which < 30 { 65536 + any % 65536 } else { any }
+}
+
+fn any_width(which: u32, any: u32) -> u32 {
+    if which < 8 {
+        return WIDTHS[(which % 8) as usize];
+    }
+    if which == 8 { any } else { 4 }
+}
+
+// Any width at any offset of any frame; most are refused.
+fn anywhere(n: Numbers) -> Request {
+    let frame = word(n.b >> 4) % 2;
+    let offset = any_offset(word(n.b >> 8) % 32, word(n.c >> 8));
+    let width = any_width(word(n.b >> 16) % 16, word(n.e >> 8));
+    access(n, 32, frame, width, offset, word(n.e >> 24))
+}
+
+// Another word, with the home's bit; word 3 of the Redistributor is not listed.
+fn wander(n: Numbers, home: u32) -> u32 {
+    let column = word(n.b >> 16) % 3;
+    let any = word(n.b >> 20);
+    let at = if column == 2 { any % 4 } else { any % 32 };
+    column * 1024 + at % 32 * 32 + home % 32
+}
+
+// A value that mostly has the home's bit.
+fn written(bit: u32, n: Numbers) -> u32 {
+    let any = word(n.c >> 8);
+    let which = word(n.c >> 44) % 8;
+    if which == 0 {
+        return bit;
+    }
+    if which == 1 {
+        return 4294967295;
+    }
+    if which == 2 {
+        return 0;
+    }
+    if which == 3 { any & !bit } else { any | bit }
+}
+
+// The offset of a home's word in a family; 8 is ICFGR, which has two words for each.
+fn offset_of(at: u32, family: u32) -> u32 {
+    let base = BASES[(at / 1024 % 3 * 9 + family % 9) as usize] % 65536;
+    let n = at / 32 % 32;
+    if family == 8 {
+        return base + 4 * (2 * n + at % 32 / 16);
+    }
+    base + 4 * n
+}
+
+fn bit_of(at: u32, family: u32) -> u32 {
+    if family == 8 {
+        return 1 << (2 * (at % 16) + 1);
+    }
+    1 << (at % 32)
+}
+
+// A word of a family: the home's, or (1 in 16) any; 1 in 64 at width 2. Modifier bits of 0 make the homes Non-secure more often
+// than not.
+fn family(home: u32, n: Numbers) -> Request {
+    let which = word(n.b >> 4) % 9;
+    let at = if word(n.b >> 8) % 16 == 0 {
+        wander(n, home)
+    } else {
+        home
+    };
+    let column = at / 1024 % 3;
+    let width = if word(n.b >> 40) % 64 == 0 { 2 } else { 4 };
+    let value = written(bit_of(at, which), n);
+    access(
+        n,
+        column * 9 + which,
+        column / 2,
+        width,
+        offset_of(at, which),
+        if which == 7 { !value } else { value },
+    )
+}
+
+// A wire, an activation, a deactivation or a reset.
+fn happening(kind: u32, n: Numbers, intid: u32) -> Request {
+    if kind < 8 {
+        return event(33, 0, word(n.e >> 8) % 2, intid);
+    }
+    if kind < 14 {
+        return event(34, side_of(n), 0, intid);
+    }
+    if kind < 19 {
+        event(35, side_of(n), 0, intid)
+    } else {
+        event(36, 0, 0, 0)
+    }
+}
+
+// Of 64 steps about 8 are wires, 6 activations, 5 deactivations, one TYPER or (1 in 32) reset, 6 messages, 4 anywhere, 34 words of
+// a family.
+fn chosen(kind: u32, shape: Shape, home: u32, n: Numbers) -> Request {
+    if kind >= 30 {
+        return family(home, n);
+    }
+    if kind >= 26 {
+        return anywhere(n);
+    }
+    let intid = named(shape, home, n);
+    if kind >= 20 {
+        return message(intid, n);
+    }
+    if (kind == 19) & (word(n.a >> 24) % 32 != 0) {
+        return access(n, 27, 0, 4, 4, word(n.c >> 8));
+    }
+    happening(kind, n, intid)
+}
+
+pub fn drawn(t: Table, n: Numbers) -> Request {
+    let home = home_of(t, word(n.a >> 4) % 4);
+    chosen(word(n.a >> 8) % 64, t.shape, home, n)
+}

@@ -1,0 +1,102 @@
+// The lent bytes: filled for a starting table, and digested. Each table has one element more than it lends, for the steps that are
+// lent one too many; it is digested too.
+ghost use Prim.Native.Nat.{_+_, _≤_};
+ghost use lib.ListN.{length};
+use crate::random::next;
+use crate::random::word;
+
+// A record byte: mode 0 is 0, mode 1 is any that is Non-secure, else any.
+fn record(mode: u32, x: u64) -> u8 {
+    let any = x >> 24;
+    if mode == 0 {
+        return 0;
+    }
+    if mode == 1 {
+        return (any % 64 + 64) as u8;
+    }
+    (any % 256) as u8
+}
+
+// A presence word: mode 0 has all, mode 1 about half, else three of four.
+fn presence(mode: u32, x: u64) -> u32 {
+    let any = word(x >> 8);
+    if mode == 0 {
+        return 4294967295;
+    }
+    if mode == 1 { any } else { any | word(x >> 32) }
+}
+
+// Both give the stream after it.
+pub fn fill_records(b: &mut [u8], mode: u32, from: u64) -> u64 {
+    let mut x = from;
+    let mut i: usize = 0;
+    while i < b.len() {
+        x = next(x);
+        b[i] = record(mode, x);
+        i += 1;
+    }
+    x
+}
+
+pub fn fill_presence(b: &mut [u32], mode: u32, from: u64) -> u64 {
+    let mut x = from;
+    let mut i: usize = 0;
+    while i < b.len() {
+        x = next(x);
+        b[i] = presence(mode, x);
+        i += 1;
+    }
+    x
+}
+
+fn wide(b: u8) -> u64 {
+    b as u64
+}
+
+fn wide_word(w: u32) -> u64 {
+    w as u64
+}
+
+// Four bytes as a number, the lowest first.
+fn four(b: &[u8], i: usize) -> u64
+    requires { ⌜ i + 4 ≤ length (now b) ⌝ }
+{
+    wide(b[i]) | (wide(b[i + 1]) << 8) | (wide(b[i + 2]) << 16) | (wide(b[i + 3]) << 24)
+}
+
+// Eight bytes at a time; what is left over one by one.
+fn mix_rest(from: u64, b: &[u8], at: usize) -> u64 {
+    let mut x = from;
+    let mut i = at;
+    while i < b.len() {
+        x = next(x ^ wide(b[i]));
+        i += 1;
+    }
+    x
+}
+
+fn mix_records(from: u64, b: &[u8]) -> u64 {
+    let mut x = from;
+    let mut i: usize = 0;
+    while b.len() - i >= 8 {
+        x = next(x ^ four(b, i) ^ (four(b, i + 4) << 32));
+        i += 8;
+    }
+    mix_rest(x, b, i)
+}
+
+fn mix_presence(from: u64, b: &[u32]) -> u64 {
+    let mut x = from;
+    let mut i: usize = 0;
+    while i < b.len() {
+        x = next(x ^ wide_word(b[i]));
+        i += 1;
+    }
+    x
+}
+
+// A digest of every byte of the four tables. Mixing is a bijection, so tables that differ in one word have different digests.
+pub fn digest(d: &[u8], r: &[u8], dp: &[u32], rp: &[u32]) -> u64 {
+    let records = mix_records(mix_records(1, d), r);
+    mix_presence(mix_presence(records, dp), rp)
+}

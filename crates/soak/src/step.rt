@@ -1,0 +1,110 @@
+// A drawn step, taken by the controller.
+ghost use Rattle.io.specs.Counts.{Counts};
+use crate::draw::Request;
+use types::Access;
+use types::Answer;
+use types::Frame;
+use types::Shape;
+use types::Side;
+
+fn side_of(n: u32) -> Side {
+    if n == 0 {
+        Side::Secure
+    } else {
+        Side::NonSecure
+    }
+}
+
+fn frame_of(n: u32) -> Frame {
+    if n == 0 { Frame::Dist } else { Frame::Redist }
+}
+
+fn access_of(q: Request) -> Access {
+    let frame = frame_of(q.frame);
+    let side = side_of(q.side);
+    if q.way == 0 {
+        return Access::read(frame, side, q.width, q.offset);
+    }
+    Access::write(frame, side, q.width, q.offset, q.value)
+}
+
+fn happen(d: &mut [u8], r: &mut [u8], dp: &[u32], rp: &[u32], shape: Shape, q: Request) -> Answer {
+    let side = side_of(q.side);
+    if q.class == 33 {
+        return controller::wire(d, r, dp, rp, shape, q.intid, q.way == 1);
+    }
+    if q.class == 34 {
+        return controller::activate(d, r, dp, rp, shape, side, q.intid);
+    }
+    controller::deactivate(d, r, dp, rp, shape, side, q.intid)
+}
+
+fn apply(d: &mut [u8], r: &mut [u8], dp: &[u32], rp: &[u32], shape: Shape, q: Request) -> Answer {
+    if q.class < 33 {
+        return controller::access(d, r, dp, rp, shape, access_of(q));
+    }
+    if q.class == 36 {
+        return controller::reset(d, r, dp, rp, shape);
+    }
+    happen(d, r, dp, rp, shape, q)
+}
+
+// The length that a table is lent with: one short where `off` is `short`, one long where it is the number after.
+fn lent(off: u32, short: u32, right: usize) -> usize {
+    let most = right % 65536;
+    if off == short % 16 {
+        return if most > 0 { most - 1 } else { 0 };
+    }
+    if off == short % 16 + 1 {
+        most + 1
+    } else {
+        most
+    }
+}
+
+fn within_bytes(n: usize, b: &[u8]) -> usize
+    ensures { λ r. ⌜ Counts r (now (b .entry)) ⌝ }
+{
+    if n <= b.len() { n } else { b.len() }
+}
+
+fn within_words(n: usize, b: &[u32]) -> usize
+    ensures { λ r. ⌜ Counts r (now (b .entry)) ⌝ }
+{
+    if n <= b.len() { n } else { b.len() }
+}
+
+// A shape number, or one past its limit where `off` is `first`, or the largest there is where it is `second`.
+fn passed(n: u32, past: u32, off: u32, first: u32, second: u32) -> u32 {
+    if off == first {
+        return past;
+    }
+    if off == second { 4294967295 } else { n }
+}
+
+fn shape_off(shape: Shape, off: u32) -> Shape {
+    Shape::new(
+        passed(shape.lines, 32, off, 9, 12),
+        passed(shape.espi, 33, off, 10, 13),
+        passed(shape.eppi, 3, off, 11, 14),
+        shape.mbis,
+    )
+}
+
+// One step, with what `off` says off its limit for this step alone.
+pub fn take(
+    d: &mut [u8],
+    r: &mut [u8],
+    dp: &[u32],
+    rp: &[u32],
+    shape: Shape,
+    off: u32,
+    q: Request,
+) -> Answer {
+    let a = within_bytes(lent(off, 1, 2012), d);
+    let b = within_bytes(lent(off, 3, 96), r);
+    let c = within_words(lent(off, 5, 63), dp);
+    let e = within_words(lent(off, 7, 3), rp);
+    let seen = shape_off(shape, off);
+    apply(&mut d[..a], &mut r[..b], &dp[..c], &rp[..e], seen, q)
+}
