@@ -26,7 +26,7 @@ fn presence(mode: u32, x: u64) -> u32 {
     if mode == 1 { any } else { any | word(x >> 32) }
 }
 
-// Both give the stream after it.
+// Fills a table from the stream, and gives the stream after it.
 pub fn fill_records(b: &mut [u8], mode: u32, from: u64) -> u64 {
     let mut x = from;
     let mut i: usize = 0;
@@ -64,7 +64,7 @@ fn four(b: &[u8], i: usize) -> u64
     wide(b[i]) | (wide(b[i + 1]) << 8) | (wide(b[i + 2]) << 16) | (wide(b[i + 3]) << 24)
 }
 
-// Eight bytes at a time; what is left over one by one.
+// The bytes from `at` on, one by one.
 fn mix_rest(from: u64, b: &[u8], at: usize) -> u64 {
     let mut x = from;
     let mut i = at;
@@ -75,6 +75,7 @@ fn mix_rest(from: u64, b: &[u8], at: usize) -> u64 {
     x
 }
 
+// Eight bytes at a time; what is left over one by one.
 fn mix_records(from: u64, b: &[u8]) -> u64 {
     let mut x = from;
     let mut i: usize = 0;

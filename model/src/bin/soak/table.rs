@@ -58,24 +58,7 @@ impl Table {
         };
         let (homes, x) = draw_homes(shape, c);
         let mut fill = Fill(x);
-        let records = word(c >> 32) % 4;
-        let presence = word(c >> 24) % 4;
-        let mut dist = fill.bytes(DIST_RECORDS + 1, records);
-        let mut redist = fill.bytes(REDIST_RECORDS + 1, records);
-        let mut dist_presence = fill.words(DIST_PRESENCE + 1, presence);
-        let mut redist_presence = fill.words(REDIST_PRESENCE + 1, presence);
-        let extra = Extra {
-            dist: dist.pop().unwrap_or(0),
-            redist: redist.pop().unwrap_or(0),
-            dist_presence: dist_presence.pop().unwrap_or(0),
-            redist_presence: redist_presence.pop().unwrap_or(0),
-        };
-        let lent = Lent {
-            dist,
-            redist,
-            dist_presence,
-            redist_presence,
-        };
+        let (lent, extra) = fill.tables(word(c >> 32) % 4, word(c >> 24) % 4);
         let machine = Machine::load(shape, &lent).expect("a starting table is well-formed");
         Table {
             shape,
@@ -205,6 +188,27 @@ fn near_limit(near: u32, any: u32, last: u32) -> u32 {
 struct Fill(u64);
 
 impl Fill {
+    /// All four tables, and one element more of each.
+    fn tables(&mut self, records: u32, presence: u32) -> (Lent, Extra) {
+        let mut dist = self.bytes(DIST_RECORDS + 1, records);
+        let mut redist = self.bytes(REDIST_RECORDS + 1, records);
+        let mut dist_presence = self.words(DIST_PRESENCE + 1, presence);
+        let mut redist_presence = self.words(REDIST_PRESENCE + 1, presence);
+        let extra = Extra {
+            dist: dist.pop().unwrap_or(0),
+            redist: redist.pop().unwrap_or(0),
+            dist_presence: dist_presence.pop().unwrap_or(0),
+            redist_presence: redist_presence.pop().unwrap_or(0),
+        };
+        let lent = Lent {
+            dist,
+            redist,
+            dist_presence,
+            redist_presence,
+        };
+        (lent, extra)
+    }
+
     /// Records: mode 0 all 0, mode 1 all Non-secure, else any byte.
     fn bytes(&mut self, count: usize, mode: u32) -> Vec<u8> {
         let mut bytes = Vec::with_capacity(count);
