@@ -6,3 +6,4 @@ pub mod ReadBack
 pub mod Cleared
 pub mod Private
 pub mod Witness
+pub mod Bytes
