@@ -3,7 +3,7 @@
 -- v. Exactly, in every digit.
 use mathlib.Core.Path.{_≡_, refl, sym, ap, ap₂, _∙_}
 use mathlib.Core.Bool.{Bool, true, false, cond, not, _&&_, _||_}
-use Prim.Native.Nat.{ℕ, _+_, _-_, _<_, _≤_}
+use Prim.Native.Nat.{ℕ, _+_, _-_, _%_, _<_, _≤_}
 use native.Mathlib.Omega.{arith}
 use lib.Dec.{eqb}
 use Rattle.lists.specs.Word.{digit, digitAt, row}
@@ -27,7 +27,7 @@ use Rattle.types.specs.declared.Answer.the-variants.{Done}
 use Rattle.meaning.specs.Answers.{valueOf}
 use Rattle.meaning.specs.Cell.{Cell, get, put, nonSecure}
 use Rattle.meaning.specs.Layout.{Tables, wellFormed, cellOf}
-use Rattle.meaning.specs.Registers.{digitBits, placeOf, first, count, names, writtenValue}
+use Rattle.meaning.specs.Registers.{digitBits, listed, placeOf, first, count, names, writtenValue}
 use Rattle.meaning.specs.Rule.{Step, access, gated, setter, sees, mayTouch, setting, clearing, update, shows, reaches, touched, visible, wordWritten, written, accessed, act}
 use Rattle.meaning.specs.Step.{Outcome, Cells, wordRead, read, accessAnswer, answer, tablesAfter, stepped}
 use Rattle.meaning.specs.Sides.{owned}
@@ -36,6 +36,8 @@ use Rattle.meaning.proofs.Effects.{set-shown, enable-cleared, active-cleared}
 use Rattle.meaning.proofs.Bytes.{digit-back as bit-back}
 use Rattle.meaning.proofs.Homes.{between-in}
 use Rattle.meaning.proofs.After.{cell-after}
+use Rattle.separation.specs.Steps.{WordOf, word, extended}
+use Rattle.separation.proofs.Answered.{listed-placed}
 use Rattle.separation.specs.ReadBack.{clearsShown, oldOrOwned, oldAndNot, nonSecureWord}
 use Rattle.engine.proofs.Facts.{lengths-fit}
 use Rattle.promises.proofs.Records.{tables-well}
@@ -206,7 +208,19 @@ first-read s t well r f p k o y e =
 done-value : (a : Answer) (v w : ℕ) → a ≡ Done v → a ≡ Done w → v ≡ w
 done-value a v w h k = ap valueOf (sym h ∙ k)
 
-module _ (s : Shape) (t : Tables) (well : wellFormed s t ≡ true) (r : Frame) (f : Family) (p : Place) (o : ℕ) (there : placeOf r 4 o ≡ At p) (holds : Holds f p) where
+-- a listed word of the family holds it
+word-of : {p : Place} {f : Family} → WordOf p f → Holds f p
+word-of (word r f n) = word-holds r f n
+word-of (extended r f n) = extended-holds r f n
+
+-- at any listed offset of a word of the family f, in either frame
+module _ (s : Shape) (t : Tables) (well : wellFormed s t ≡ true) (r : Frame) (o : ℕ) (small : o ≤ 65535) (aligned : o % 4 ≡ 0) (p : Place) (listed-at : listed r o ≡ At p) (f : Family) (of : WordOf p f) where
+  there : placeOf r 4 o ≡ At p
+  there = listed-placed r o p small aligned listed-at
+
+  holds : Holds f p
+  holds = word-of of
+
   -- Read, set (enable, pending or active), read: the old word, or v and the owned bits.
   pub read-back : setter f ≡ true → (old v y z : ℕ) → (stepped s (nonSecureWord r Read o y) t) .answered ≡ Done old
       → (stepped s (nonSecureWord r Read o z) ((stepped s (nonSecureWord r Write o v) t) .tables)) .answered ≡ Done (oldOrOwned f p old v (cellOf s t))
