@@ -1,8 +1,8 @@
 // How often each answer and each kind of step occurred: places 0 to 9 are the answers by status, and from 10 on stand the done
 // steps, four places a class: by side, and by read or write.
-use crate::draw::Request;
 use crate::print::field;
 use crate::print::line_end;
+use dice::draw::Request;
 use std::num::wrapping_add_u64;
 
 fn more(counts: &mut [u64], at: u32) {

@@ -2,8 +2,8 @@
 // lent one too many; it is digested too.
 ghost use Prim.Native.Nat.{_+_, _≤_};
 ghost use lib.ListN.{length};
-use crate::random::next;
-use crate::random::word;
+use dice::random::next;
+use dice::random::word;
 
 // A record byte: mode 0 is 0, mode 1 is any that is Non-secure, else any.
 fn record(mode: u32, x: u64) -> u8 {

@@ -5,28 +5,25 @@ use answers::status_of;
 use answers::value_of;
 use counts::count;
 use counts::print_counts;
-use draw::four_of;
-use draw::off_of;
+use dice::draw::four_of;
+use dice::draw::off_of;
+use dice::random::next;
+use dice::table::Table;
 use lent::digest;
 use lent::fill_presence;
 use lent::fill_records;
 use print::field;
 use print::hex;
 use print::line_end;
-use random::next;
 use std::num::wrapping_add_u64;
-use table::Table;
 use types::Shape;
 
 mod counts;
-mod draw;
 mod lent;
 mod plan;
 mod print;
-mod random;
 mod show;
 mod step;
-mod table;
 
 // What a table's steps came to. `changed` is how often the tables' digest was not the one before it.
 struct Run {
@@ -97,7 +94,7 @@ fn taken(
     before: Run,
 ) -> Run {
     let n = four_of(before.x);
-    let q = draw::drawn(t, n);
+    let q = dice::draw::drawn(t, n);
     let off = off_of(n);
     let answer = step::take(d, r, dp, rp, t.shape, off, q);
     let status = status_of(answer);
@@ -175,7 +172,7 @@ fn one_table(
     plan: plan::Plan,
     number: u64,
 ) {
-    let t = table::begun(number);
+    let t = dice::table::begun(number);
     let first = begin(d, r, dp, rp, t);
     let run = steps(d, r, dp, rp, counts, plan, t, first);
     field(b"table=", number);

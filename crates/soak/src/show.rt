@@ -1,9 +1,9 @@
 // One step as a line of numbers, for those who look for the first difference (docs/SOAK.md has their order).
-use crate::draw::Request;
 use crate::print::field;
 use crate::print::hex;
 use crate::print::line_end;
 use crate::print::spaced;
+use dice::draw::Request;
 
 fn request(q: Request) {
     spaced(q.class);

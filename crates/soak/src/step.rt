@@ -1,6 +1,6 @@
 // A drawn step, taken by the controller.
 ghost use Rattle.io.specs.Counts.{Counts};
-use crate::draw::Request;
+use dice::draw::Request;
 use types::Access;
 use types::Answer;
 use types::Frame;
