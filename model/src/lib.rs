@@ -1,6 +1,6 @@
 //! A second model of the interrupt controller's answers, to compare with.
 //!
-//! It is written from document 01 (01-scope.md) and its readings (READINGS.md)
+//! It is written from document 01 and its readings (docs/DECISIONS.md has them)
 //! alone, in another shape than the product: a map from INTID to a struct of
 //! named facts, and a `match` on offsets. Record bytes appear only in `tables`,
 //! where the lent tables are loaded and stored.
