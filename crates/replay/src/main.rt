@@ -5,11 +5,11 @@
 ghost use Prim.Native.Nat.{_≤_};
 ghost use lib.ListN.{length};
 use bench::Ended;
-use bench::tables::dist_present;
-use bench::tables::dist_records;
-use bench::tables::redist_present;
-use bench::tables::redist_records;
 use bench::whole::finish;
+use blank::dist_present;
+use blank::dist_records;
+use blank::redist_present;
+use blank::redist_records;
 use libc::STDERR_FILENO;
 use libc::STDIN_FILENO;
 use libc::STDOUT_FILENO;
