@@ -1,4 +1,5 @@
-// A decoded access: what a read of its place shows, and what a write to it leaves.
+// A decoded access: what a read of its place shows, and what a write to it leaves. dp and rp are the presence words of the
+// Distributor and of the Redistributor.
 ghost use mathlib.Core.Path.{_≡_};
 ghost use mathlib.Core.Bool.{true};
 ghost use Rattle.types.specs.declared.Refusal.{Refusal as Why};
@@ -41,37 +42,19 @@ pub fn value_of(width: u32, value: u32) -> u32
 pub fn read<'a>(
     dist: &'a [u8],
     redist: &'a [u8],
-    dist_presence: &[u32],
-    redist_presence: &[u32],
+    dp: &[u32],
+    rp: &[u32],
     shape: Shape,
     side: Side,
     place: Place,
 ) -> u32
-    requires { ⌜ wellFormed shape (lent (now dist) (now redist) (now «dist_presence») (now «redist_presence»)) ≡ true ⌝ }
+    requires { ⌜ wellFormed shape (lent (now dist) (now redist) (now dp) (now rp)) ≡ true ⌝ }
     requires { ⌜ valid place ≡ true ⌝ }
-    ensures { λ v. ⌜ v ≡ read shape side place (cellOf shape (lent (now (dist .entry)) (now (redist .entry)) (now («dist_presence» .entry)) (now («redist_presence» .entry)))) ⌝ }
+    ensures { λ v. ⌜ v ≡ read shape side place (cellOf shape (lent (now (dist .entry)) (now (redist .entry)) (now (dp .entry)) (now (rp .entry)))) ⌝ }
 {
     match place {
-        Place::Word(_, f, _) => read_word(
-            dist,
-            redist,
-            dist_presence,
-            redist_presence,
-            shape,
-            side,
-            f,
-            place,
-        ),
-        Place::Extended(_, f, _) => read_word(
-            dist,
-            redist,
-            dist_presence,
-            redist_presence,
-            shape,
-            side,
-            f,
-            place,
-        ),
+        Place::Word(_, f, _) => read_word(dist, redist, dp, rp, shape, side, f, place),
+        Place::Extended(_, f, _) => read_word(dist, redist, dp, rp, shape, side, f, place),
         Place::Typer => typer_of(shape),
         Place::Message(_) => 0,
     }
@@ -80,50 +63,21 @@ pub fn read<'a>(
 pub fn write(
     dist: &mut [u8],
     redist: &mut [u8],
-    dist_presence: &[u32],
-    redist_presence: &[u32],
+    dp: &[u32],
+    rp: &[u32],
     shape: Shape,
     side: Side,
     place: Place,
     value: u32,
 )
-    requires { ⌜ wellFormed shape (lent (now dist) (now redist) (now «dist_presence») (now «redist_presence»)) ≡ true ⌝ }
+    requires { ⌜ wellFormed shape (lent (now dist) (now redist) (now dp) (now rp)) ≡ true ⌝ }
     requires { ⌜ valid place ≡ true ⌝ }
-    ensures { λ _. ⌜ Ruled shape (lent (now (dist .entry)) (now (redist .entry)) (now («dist_presence» .entry)) (now («redist_presence» .entry))) (written shape side place value) (now (dist .exit)) (now (redist .exit)) ⌝ }
+    ensures { λ _. ⌜ Ruled shape (lent (now (dist .entry)) (now (redist .entry)) (now (dp .entry)) (now (rp .entry))) (written shape side place value) (now (dist .exit)) (now (redist .exit)) ⌝ }
 {
     match place {
-        Place::Word(_, f, _) => write_word(
-            dist,
-            redist,
-            dist_presence,
-            redist_presence,
-            shape,
-            side,
-            f,
-            place,
-            value,
-        ),
-        Place::Extended(_, f, _) => write_word(
-            dist,
-            redist,
-            dist_presence,
-            redist_presence,
-            shape,
-            side,
-            f,
-            place,
-            value,
-        ),
+        Place::Word(_, f, _) => write_word(dist, redist, dp, rp, shape, side, f, place, value),
+        Place::Extended(_, f, _) => write_word(dist, redist, dp, rp, shape, side, f, place, value),
         Place::Typer => {}
-        Place::Message(g) => send(
-            dist,
-            redist,
-            dist_presence,
-            redist_presence,
-            shape,
-            side,
-            g,
-            value,
-        ),
+        Place::Message(g) => send(dist, redist, dp, rp, shape, side, g, value),
     }
 }

@@ -25,7 +25,7 @@ enum-told c = search needs
 typer-of-requires : tie.Need-typer-of-requires
 typer-of-requires c κs =
     let a = c .before .before .before .before .before .before .args in
-    shape-fits (a .shape) (lent (now (a .dist)) (now (a .redist)) (now (a .dist-presence)) (now (a .redist-presence))) (c .before .before .before .before .before .before .pre .0)
+    shape-fits (a .shape) (lent (now (a .dist)) (now (a .redist)) (now (a .dp)) (now (a .rp))) (c .before .before .before .before .before .before .pre .0)
 
 enum-told-2 : tie.Need-enum-told-2
 enum-told-2 c = search needs

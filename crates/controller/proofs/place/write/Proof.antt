@@ -53,7 +53,7 @@ returns-3 : tie.Need-returns-3
 unfolding written
 returns-3 c =
     let a = c .before .before .before .before .before .before .args in
-    rw (c .enum-told .given .1) (quiet (a .shape) (lent (now (a .dist)) (now (a .redist)) (now (a .dist-presence)) (now (a .redist-presence))) _ (λ k. c .before .before .before .before .before .slice-known .given k .fits) (λ k. c .before .before .before .before .slice-known2 .given k .fits) (λ m byte. refl))
+    rw (c .enum-told .given .1) (quiet (a .shape) (lent (now (a .dist)) (now (a .redist)) (now (a .dp)) (now (a .rp))) _ (λ k. c .before .before .before .before .before .slice-known .given k .fits) (λ k. c .before .before .before .before .slice-known2 .given k .fits) (λ m byte. refl))
 
 same-length-5 : tie.Need-same-length-5
 same-length-5 c = search needs
