@@ -6,7 +6,7 @@
 --   Registers   the listed registers, and where an access goes                       (Listed registers, refusals 2 to 6)
 --   Rule        what a step does to one interrupt, and what a read shows of it       (Effects)
 --   Step        what a step answers, and the tables after it                         (Answers and order, Effects)
---   Sides       what the Non-secure side owns; steps of each side, private steps     (Private Secure steps)
+--   Sides       what the Non-secure side owns; the side of a step; what regroups     (Listed registers, Private Secure steps)
 --   Cases       K1 to K12 as a table                                                 (Cases)
 pub mod Cell
 pub mod Layout

@@ -60,7 +60,7 @@ unfoldable pub mayTouch : Side → Family → Cell → Bool
 mayTouch Secure f c = true
 mayTouch NonSecure f c = not (grouping f) && sees NonSecure c
 
--- The set families, and the set and clear families.
+-- The set families, the clear families, and both.
 abbrev pub setter : Family → Bool
 setter Igroupr = false
 setter Isenabler = true

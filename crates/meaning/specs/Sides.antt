@@ -1,4 +1,4 @@
--- Whose an interrupt is, and whose a step: document 01's "Listed registers" (owns) and "Private Secure steps".
+-- Whose an interrupt is, and whose a step: document 01's "Listed registers" (owns). Private steps are defined in the crate separation.
 use mathlib.Core.Bool.{Bool, true, false, not, _&&_, _||_}
 use Prim.Native.Nat.{ℕ}
 use Rattle.types.specs.declared.Side.{Side}
