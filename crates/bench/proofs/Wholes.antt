@@ -16,8 +16,9 @@ use Rattle.script.specs.Replay.{startTables, startProgress, start, ending, fini
 use Rattle.script.specs.Stream.{Live, Fed, fed, closed, startLive, within}
 use Rattle.script.proofs.Pieces.{within-fed, within-goes}
 use Rattle.script.proofs.Lines.{streamed}
-use Rattle.stream.specs.declared.State.{State}
-use Rattle.stream.specs.Living.{liveOf, Taken, startState}
+use Rattle.held.specs.declared.State.{State}
+use Rattle.held.specs.Held.{startState}
+use Rattle.stream.specs.Living.{liveOf, Taken}
 use Rattle.bench.specs.Whole.{pick, unless, over, endedOf, endedText, enough, taken, wholeOf, wholeText}
 use Rattle.lines.proofs.Reaching.{put-fits}
 use Rattle.stream.proofs.Living.{further}

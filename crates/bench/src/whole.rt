@@ -8,11 +8,11 @@ use blank::dist_present;
 use blank::dist_records;
 use blank::redist_present;
 use blank::redist_records;
+use held::State;
+use held::first;
+use held::start;
 use steps::answer::put_ending;
-use stream::State;
 use stream::piece::feed;
-use stream::piece::first;
-use stream::piece::start;
 
 // The input has ended: what is still to be written, at the start of `out`.
 pub fn finish(out: &mut [u8], line: &[u8], s: State) -> Ended

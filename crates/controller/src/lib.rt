@@ -10,18 +10,16 @@ ghost use Rattle.meaning.specs.Layout.{lent};
 ghost use Rattle.meaning.specs.Rule as step;
 ghost use Rattle.meaning.specs.Step.{stepped};
 use decoder::decode::place_of;
-use decoder::tables::well_formed;
 use engine::event::Event;
 use engine::event::happen;
 use engine::reset::clear;
+use tables::well_formed;
 use types::Answer;
 use types::Decoded;
 use types::Refusal;
 use types::Shape;
 use types::Side;
 use types::Way;
-
-mod place;
 
 // A read or a write at an offset of a frame.
 pub fn access(
@@ -40,12 +38,12 @@ pub fn access(
     let frame = request.frame;
     let found = place_of(frame, request.width, request.offset);
     let Decoded::At(place) = found else {
-        return place::refused(found);
+        return places::refused(found);
     };
     let side = request.side;
     let way = request.way;
     match way {
-        Way::Read => Answer::Done(place::read(
+        Way::Read => Answer::Done(places::read(
             dist,
             redist,
             dist_presence,
@@ -55,8 +53,8 @@ pub fn access(
             place,
         )),
         Way::Write => {
-            let value = place::value_of(request.width, request.value);
-            place::write(
+            let value = places::value_of(request.width, request.value);
+            places::write(
                 dist,
                 redist,
                 dist_presence,

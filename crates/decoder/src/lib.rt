@@ -1,6 +1,5 @@
-// Where an access goes, or the first of refusals 1 to 6 that applies.
+// Where an access goes, or the first of refusals 2 to 6 that applies.
 pub mod decode;
-pub mod tables;
 
 use types::Family;
 use types::Message;

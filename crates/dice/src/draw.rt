@@ -4,6 +4,11 @@ use crate::random::word;
 use crate::table::Table;
 use crate::table::home_of;
 use crate::table::intid_of;
+use edges::any_offset;
+use edges::any_width;
+use edges::edge;
+use edges::near;
+use edges::offset_of;
 use types::Shape;
 
 // A step. `class` says what it is, and it is counted by it: 0 to 26 the families by column, 27 TYPER, 28 to 31 the message
@@ -27,89 +32,6 @@ pub struct Numbers {
     pub c: u64,
     pub e: u64,
 }
-
-// First words by column, as document 01's table has them; ICFGR is the last of each.
-const BASES: [u32; 27] = [
-    0x080,
-    0x100,
-    0x180,
-    0x200,
-    0x280,
-    0x300,
-    0x380,
-    0xD00,
-    0xC00, //
-    0x1000,
-    0x1200,
-    0x1400,
-    0x1600,
-    0x1800,
-    0x1A00,
-    0x1C00,
-    0x3400,
-    0x3000, //
-    0x080,
-    0x100,
-    0x180,
-    0x200,
-    0x280,
-    0x300,
-    0x380,
-    0xD00,
-    0xC00,
-];
-
-const INTIDS: [u32; 24] = [
-    0,
-    15,
-    16,
-    31,
-    32,
-    319,
-    320,
-    1019,
-    1020,
-    1023,
-    1055,
-    1056,
-    1087,
-    1088,
-    1119,
-    1120,
-    4095,
-    4096,
-    4223,
-    4224,
-    5119,
-    5120,
-    65836,
-    4294967295,
-];
-
-const OFFSETS: [u32; 20] = [
-    0x0000,
-    0xFFFC,
-    0x10000,
-    0x10001,
-    0x226,
-    0x224,
-    0x40,
-    0x41,
-    0x42,
-    0x44,
-    0x48,
-    0x50,
-    0x58,
-    0x5A,
-    0x08C,
-    0xC14,
-    0xC18,
-    0xD0C,
-    4294967292,
-    4294967295,
-];
-
-const WIDTHS: [u32; 8] = [2, 4, 4, 2, 1, 0, 3, 8];
 
 pub fn four_of(x: u64) -> Numbers {
     let a = next(x);
@@ -155,25 +77,6 @@ fn side_of(n: Numbers) -> u32 {
     word(n.a >> 16) % 2
 }
 
-fn near(shape: Shape, which: u32, any: u32) -> u32 {
-    let pair = which / 2;
-    let past = which % 2;
-    if pair == 0 {
-        return 32 * (shape.lines % 32) + 31 + past;
-    }
-    if pair == 1 {
-        return 1055 + 32 * (shape.eppi % 4) + past;
-    }
-    if pair == 2 {
-        return 4095 + 32 * (shape.espi % 64) + past;
-    }
-    if past == 0 { any } else { any % 5200 }
-}
-
-fn edge(k: u32) -> u32 {
-    INTIDS[(k % 24) as usize]
-}
-
 // An INTID: the home's (5 of 8), one of its word, an edge, or one near the shape's limits.
 fn named(shape: Shape, home: u32, n: Numbers) -> u32 {
     let which = word(n.c >> 4) % 8;
@@ -195,26 +98,6 @@ fn message(intid: u32, n: Numbers) -> Request {
     let width = if word(n.b >> 8) % 2 == 0 { 2 } else { 4 };
     let value = (intid % 8192) | (word(n.c >> 8) & 0xFFFFE000);
     access(n, 28 + which, 0, width, 0x40 + 8 * which, value)
-}
-
-fn any_offset(which: u32, any: u32) -> u32 {
-    if which < 20 {
-        return OFFSETS[(which % 20) as usize];
-    }
-    if which < 24 {
-        return any % 65536;
-    }
-    if which < 28 {
-        return 4 * (any % 4096);
-    }
-    if which < 30 { 65536 + any % 65536 } else { any }
-}
-
-fn any_width(which: u32, any: u32) -> u32 {
-    if which < 8 {
-        return WIDTHS[(which % 8) as usize];
-    }
-    if which == 8 { any } else { 4 }
 }
 
 // Any width at any offset of any frame; most are refused.
@@ -247,16 +130,6 @@ fn written(bit: u32, n: Numbers) -> u32 {
         return 0;
     }
     if which == 3 { any & !bit } else { any | bit }
-}
-
-// The offset of a home's word in a family; 8 is ICFGR, which has two words for each.
-fn offset_of(at: u32, family: u32) -> u32 {
-    let base = BASES[(at / 1024 % 3 * 9 + family % 9) as usize] % 65536;
-    let n = at / 32 % 32;
-    if family == 8 {
-        return base + 4 * (2 * n + at % 32 / 16);
-    }
-    base + 4 * n
 }
 
 fn bit_of(at: u32, family: u32) -> u32 {

@@ -10,12 +10,12 @@ use blank::dist_present;
 use blank::dist_records;
 use blank::redist_present;
 use blank::redist_records;
+use held::State;
+use held::start;
 use libc::STDERR_FILENO;
 use libc::STDIN_FILENO;
 use libc::STDOUT_FILENO;
-use stream::State;
 use stream::piece::feed;
-use stream::piece::start;
 
 // What a turn leaves: the state, whether there may be more to read, and whether a read or a write failed.
 struct After {

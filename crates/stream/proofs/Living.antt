@@ -13,18 +13,9 @@ use Rattle.meaning.specs.Layout.{Tables}
 use Rattle.script.specs.declared.Progress.{Progress}
 use Rattle.script.specs.Run.{Run, lineRead}
 use Rattle.script.specs.Stream.{Live, when, lengthened, pushed, byteRead, Fed, goOn, hasRoom, within}
-use Rattle.stream.specs.declared.State.{State}
+use Rattle.held.specs.declared.State.{State}
 use Rattle.lines.specs.Reached.{runOf, Reached}
 use Rattle.stream.specs.Living.{liveOf, Living, Taken}
-
-pub pushed-one : (line : List ℕ) (len b : ℕ) → len < length line → take (len + 1) (set line len b) ≡ pushed (length line) (take len line) b
-unfolding pushed
-pushed-one line len b h =
-    rw (lt-ltb (length (take len line)) (length line) (simp length-take (omega arith)), add-one) (take-suc-set line len b h)
-
-pub pushed-none : (line : List ℕ) (len b : ℕ) → length line ≤ len → take len line ≡ pushed (length line) (take len line) b
-unfolding pushed
-pushed-none line len b h = rw (le-ltb (length (take len line)) (length line) (simp length-take (omega arith)))
 
 not-when : (x : Bool) (l m : Live) → x ≡ false → m ≡ when x l m
 not-when true l m h = absurd (true≢false h)

@@ -4,10 +4,9 @@ use mathlib.Core.List.{List}
 use Prim.Native.Nat.{ℕ, _≤_}
 use lib.ListN.{length, take, drop}
 use Rattle.meaning.specs.Layout.{Tables}
-use Rattle.script.specs.Replay.{startProgress}
 use Rattle.script.specs.Stream.{Live, Fed}
 use Rattle.lines.specs.Reached.{runOf}
-use Rattle.stream.specs.declared.State.{State}
+use Rattle.held.specs.declared.State.{State}
 
 -- the unfinished line is the first bytes of a lent buffer
 abbrev pub liveOf : State → Tables → List ℕ → List ℕ → ℕ → Live
@@ -27,6 +26,3 @@ pub record Taken (f : Fed) (s : State) (t : Tables) (line : List ℕ) (piece : L
   pub inside : used ≤ length piece
   pub kept : drop e′ buffer′ ≡ drop e′ buffer
   pub fits : e′ ≤ length buffer′
-
-unfoldable pub startState : State
-startState = record { at = startProgress; len = 0 }

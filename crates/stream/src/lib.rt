@@ -1,14 +1,7 @@
 // A bench replay whose input comes in pieces of any size.
 pub mod piece;
 
-use script::Progress;
-
-// What is kept from byte to byte: how far the replay has come, and how many bytes of the line that is not whole yet stand in the
-// buffer that the caller lends for it, of at least 18 bytes.
-pub struct State {
-    pub at: Progress,
-    pub len: usize,
-}
+use held::State;
 
 // How far a byte has brought it.
 pub struct Passed {

@@ -4,49 +4,15 @@ ghost use mathlib.Core.List.{[]};
 ghost use Prim.Native.Nat.{_+_, _≤_};
 ghost use lib.ListN.{length, take};
 ghost use Rattle.meaning.specs.Layout.{lent};
-ghost use Rattle.script.specs.Stream.{pushed, byteRead, within};
-ghost use Rattle.stream.specs.Living.{liveOf, startState, Living, Taken};
+ghost use Rattle.script.specs.Stream.{byteRead, within};
+ghost use Rattle.held.specs.Held.{heldIn, byteHeld, bytesHeld};
+ghost use Rattle.stream.specs.Living.{liveOf, Living, Taken};
 use crate::Fed;
 use crate::Passed;
-use crate::State;
-use keys::Key;
+use held::State;
+use held::first;
+use held::push;
 use lines::line::line_read;
-use script::Progress;
-
-// Nothing read yet.
-pub fn start() -> State
-    ensures { λ s. ⌜ s ≡ startState ⌝ }
-{
-    let values = [0u32; 10];
-    let at = Progress {
-        key: Key::Lines,
-        values,
-        steps: 0,
-        over: false,
-    };
-    State { at, len: 0 }
-}
-
-// One byte more of the line, where it is kept. Answers how many are kept.
-fn push(line: &mut [u8], len: usize, b: u8) -> usize
-    ensures { λ r. ⌜ take r (now (line .exit)) ≡ pushed (length (now (line .entry))) (take len (now (line .entry))) b ⌝ }
-{
-    if line.len() <= len {
-        return len;
-    }
-    line[len] = b;
-    len + 1
-}
-
-// The first bytes of a line.
-pub fn first(line: &[u8], len: usize) -> &[u8]
-    ensures { λ r. ⌜ now r ≡ take len (now (line .entry)) ⌝ }
-{
-    if line.len() <= len {
-        return line;
-    }
-    &line[..len]
-}
 
 // The line is whole.
 fn line_end(
@@ -60,7 +26,7 @@ fn line_end(
     s: State,
 ) -> Passed
     requires { ⌜ end + 128 ≤ length (now out) ⌝ }
-    ensures { λ r. ⌜ Living (byteRead (liveOf s (lent (now (dist .entry)) (now (redist .entry)) (now («dist_presence» .entry)) (now («redist_presence» .entry))) (now (line .entry)) (now (out .entry)) end) 10) (r .state) (lent (now (dist .exit)) (now (redist .exit)) (now («dist_presence» .entry)) (now («redist_presence» .entry))) (now (line .entry)) (now (out .entry)) end (now (out .exit)) (r .end) ⌝ }
+    ensures { λ r. ⌜ (Living (byteRead (liveOf s (lent (now (dist .entry)) (now (redist .entry)) (now («dist_presence» .entry)) (now («redist_presence» .entry))) (now (line .entry)) (now (out .entry)) end) 10) (r .state) (lent (now (dist .exit)) (now (redist .exit)) (now («dist_presence» .entry)) (now («redist_presence» .entry))) (now (line .entry)) (now (out .entry)) end (now (out .exit)) (r .end)) × (r .state .len ≡ 0) ⌝ }
 {
     let p = s.at;
     let len = s.len;
@@ -94,7 +60,7 @@ fn byte(
     b: u8,
 ) -> Passed
     requires { ⌜ end + 128 ≤ length (now out) ⌝ }
-    ensures { λ r. ⌜ Living (byteRead (liveOf s (lent (now (dist .entry)) (now (redist .entry)) (now («dist_presence» .entry)) (now («redist_presence» .entry))) (now (line .entry)) (now (out .entry)) end) b) (r .state) (lent (now (dist .exit)) (now (redist .exit)) (now («dist_presence» .entry)) (now («redist_presence» .entry))) (now (line .exit)) (now (out .entry)) end (now (out .exit)) (r .end) ⌝ }
+    ensures { λ r. ⌜ (Living (byteRead (liveOf s (lent (now (dist .entry)) (now (redist .entry)) (now («dist_presence» .entry)) (now («redist_presence» .entry))) (now (line .entry)) (now (out .entry)) end) b) (r .state) (lent (now (dist .exit)) (now (redist .exit)) (now («dist_presence» .entry)) (now («redist_presence» .entry))) (now (line .exit)) (now (out .entry)) end (now (out .exit)) (r .end)) × (heldIn (now (line .exit)) (r .state .len) ≡ byteHeld (heldIn (now (line .entry)) (s .len)) b) ⌝ }
 {
     if b == 10 {
         return line_end(
@@ -125,7 +91,7 @@ pub fn feed(
     s: State,
     piece: &[u8],
 ) -> Fed
-    ensures { λ r. ⌜ Taken (within (length (now (out .entry))) (liveOf s (lent (now (dist .entry)) (now (redist .entry)) (now («dist_presence» .entry)) (now («redist_presence» .entry))) (now (line .entry)) [] 0) (now (piece .entry))) (r .state) (lent (now (dist .exit)) (now (redist .exit)) (now («dist_presence» .entry)) (now («redist_presence» .entry))) (now (line .exit)) (now (piece .entry)) (r .used) (now (out .entry)) (now (out .exit)) (r .end) ⌝ }
+    ensures { λ r. ⌜ (Taken (within (length (now (out .entry))) (liveOf s (lent (now (dist .entry)) (now (redist .entry)) (now («dist_presence» .entry)) (now («redist_presence» .entry))) (now (line .entry)) [] 0) (now (piece .entry))) (r .state) (lent (now (dist .exit)) (now (redist .exit)) (now («dist_presence» .entry)) (now («redist_presence» .entry))) (now (line .exit)) (now (piece .entry)) (r .used) (now (out .entry)) (now (out .exit)) (r .end)) × (heldIn (now (line .exit)) (r .state .len) ≡ bytesHeld (heldIn (now (line .entry)) (s .len)) (take (r .used) (now (piece .entry)))) ⌝ }
 {
     let mut state = s;
     let mut end: usize = 0;

@@ -6,11 +6,11 @@ ghost use lib.ListN.{length};
 ghost use Rattle.lists.specs.Word.{digitAt};
 ghost use Rattle.meaning.specs.Registers.{digitBits};
 ghost use Rattle.words.specs.Part.{Fitting, shownAt, gathered, storedAt, stored};
-use effects::write::touched;
 use record::view::visible;
 use registers::families::digit_bits;
 use types::Family;
 use types::Side;
+use writes::touched;
 
 // Who accesses which family, the INTID of the part's first record, and (bit x) whether record x is implemented.
 pub struct Word {

@@ -30,13 +30,13 @@ feed-requires : tie.Need-feed-requires Inv-loop μ-loop
 feed-requires c κs = search needs
 
 add-from : tie.Need-add-from Inv-loop μ-loop
-add-from c = let h = simp (length-take, length-drop) at (c .before .before .before .before .before .before .before .before .before .before .feed .ensures .inside) in omega (arith, h, c .before .before .before .before .before .before .before .before .before .before .before .before .before .before .before .before .before .loop .inv .0, c .before .before .before .before .before .before .before .before .before .before .before .before .before .before .before .before .before .before .before .before .before .before .before .before .before .good)
+add-from c = let h = simp (length-take, length-drop) at (c .before .before .before .before .before .before .before .before .before .before .feed .ensures .0 .inside) in omega (arith, h, c .before .before .before .before .before .before .before .before .before .before .before .before .before .before .before .before .before .loop .inv .0, c .before .before .before .before .before .before .before .before .before .before .before .before .before .before .before .before .before .before .before .before .before .before .before .before .before .good)
 
 slice-reshare-prefix-write-all : tie.Need-slice-reshare-prefix-write-all Inv-loop μ-loop
-slice-reshare-prefix-write-all c = c .before .before .before .before .before .before .before .before .before .before .feed .ensures .fits
+slice-reshare-prefix-write-all c = c .before .before .before .before .before .before .before .before .before .before .feed .ensures .0 .fits
 
 slice-aggregate-write-all : tie.Need-slice-aggregate-write-all Inv-loop μ-loop
-slice-aggregate-write-all c = let h = c .before .before .before .before .before .before .before .before .before .before .before .feed .ensures .fits in simp length-take (omega arith)
+slice-aggregate-write-all c = let h = c .before .before .before .before .before .before .before .before .before .before .before .feed .ensures .0 .fits in simp length-take (omega arith)
 
 write-all-requires : tie.Need-write-all-requires Inv-loop μ-loop
 write-all-requires c κs = search needs
@@ -61,13 +61,13 @@ loop-less c =
     let a = c .before .before .before .before .before .before .before .before .before .before .before .before .before .before .before .before .before .before .before .before .before .before .before .before .before .before .before .before .args in
     let b = c .before .before .before .before .before .before .before .before .before .before .before .before .before .before .before .before .before .before .before .before in
     let b2 = c .before .before .before .before .before .before .before .before .before .before .before .before .before .before .before .before .before .before .before in
-    let some : 0 < length (take (length (now (a .piece)) - b .loop .from) (drop (b .loop .from) (now (a .piece)))) = simp (length-take, length-drop) (omega (arith, b2 .loop-test .taken)) in let goes = taken-goes (b .loop .state) _ (b .loop .line) (take (length (now (a .piece)) - b .loop .from) (drop (b .loop .from) (now (a .piece)))) (b .loop .out) (c .before .before .before .before .before .before .before .before .before .before .before .before .before .feed .ensures) (omega (arith, b .loop .inv .1, c .before .before .before .before .before .before .before .before .before .before .before .before .before .before .before .before .before .before .before .before .before .before .before .before .before .before .before .before .pre)) some in omega (arith, b2 .loop-test .taken, goes)
+    let some : 0 < length (take (length (now (a .piece)) - b .loop .from) (drop (b .loop .from) (now (a .piece)))) = simp (length-take, length-drop) (omega (arith, b2 .loop-test .taken)) in let goes = taken-goes (b .loop .state) _ (b .loop .line) (take (length (now (a .piece)) - b .loop .from) (drop (b .loop .from) (now (a .piece)))) (b .loop .out) (c .before .before .before .before .before .before .before .before .before .before .before .before .before .feed .ensures .0) (omega (arith, b .loop .inv .1, c .before .before .before .before .before .before .before .before .before .before .before .before .before .before .before .before .before .before .before .before .before .before .before .before .before .before .before .before .pre)) some in omega (arith, b2 .loop-test .taken, goes)
 
 loop-again : tie.Need-loop-again Inv-loop μ-loop
 loop-again c =
     let b = c .before .before .before .before .before .before .before .before .before .before .before .before .before in
     let b2 = c .before .before .before .before .before .before .before .before .before .before .before .before .before .before .before .before .before .before .before .before in
-    (let h = simp (length-take, length-drop) at (b .feed .ensures .inside) in omega (arith, h, b2 .loop .inv .0), b .feed .kept .1 .1 .1 .1 .1 .0 ∙ b2 .loop .inv .1, b .feed .kept .0 ∙ b2 .loop .inv .2, b .feed .kept .1 .0 ∙ b2 .loop .inv .3, b .feed .kept .1 .1 .1 .1 .0 ∙ b2 .loop .inv .4)
+    (let h = simp (length-take, length-drop) at (b .feed .ensures .0 .inside) in omega (arith, h, b2 .loop .inv .0), b .feed .kept .1 .1 .1 .1 .1 .0 ∙ b2 .loop .inv .1, b .feed .kept .0 ∙ b2 .loop .inv .2, b .feed .kept .1 .0 ∙ b2 .loop .inv .3, b .feed .kept .1 .1 .1 .1 .0 ∙ b2 .loop .inv .4)
 
 same-length-5 : tie.Need-same-length-5 Inv-loop μ-loop
 same-length-5 c = search needs

@@ -49,7 +49,7 @@ returns : tie.Need-returns
 returns c =
     let a = c .before .before .before .before .before .before .before .before .before .before .before .before .before .before .before .before .before .before .before .before .before .args in
     let b = c .before .before .before .before .before .before .before in
-    let line : List ℕ = replicate 18 0 in let got = (from-start line (c .before .before .before .before .before .before .before .before .start .ensures) (c .before .before .before .before .before .before .before .before .before .before .before .before .before .before .before .before .before .before .dist-records .ensures) (c .before .before .before .before .before .before .before .before .before .before .before .before .before .before .before .before .before .redist-records .ensures) (c .before .before .before .before .before .before .before .before .before .before .before .before .before .before .before .before .dist-present .ensures) (c .before .before .before .before .before .before .before .before .before .before .before .before .before .before .before .redist-present .ensures) refl (now (a .input)) (now (a .out)) _ _ _ _ _ _ (b .feed .ensures)) in whole-full _ _ _ _ _ _ _ _ (b .feed .kept .1 .1 .1 .1 .1 .0) got (not-all _ _ _ _ _ _ _ _ (b .feed .kept .1 .1 .1 .1 .1 .0) got (c .if1 .taken))
+    let line : List ℕ = replicate 18 0 in let got = (from-start line (c .before .before .before .before .before .before .before .before .start .ensures) (c .before .before .before .before .before .before .before .before .before .before .before .before .before .before .before .before .before .before .dist-records .ensures) (c .before .before .before .before .before .before .before .before .before .before .before .before .before .before .before .before .before .redist-records .ensures) (c .before .before .before .before .before .before .before .before .before .before .before .before .before .before .before .before .dist-present .ensures) (c .before .before .before .before .before .before .before .before .before .before .before .before .before .before .before .redist-present .ensures) refl (now (a .input)) (now (a .out)) _ _ _ _ _ _ (b .feed .ensures .0)) in whole-full _ _ _ _ _ _ _ _ (b .feed .kept .1 .1 .1 .1 .1 .0) got (not-all _ _ _ _ _ _ _ _ (b .feed .kept .1 .1 .1 .1 .1 .0) got (c .if1 .taken))
 
 sub-if2 : tie.Need-sub-if2
 sub-if2 c = search needs
@@ -61,7 +61,7 @@ returns-2 : tie.Need-returns-2
 returns-2 c =
     let a = c .before .before .before .before .before .before .before .before .before .before .before .before .before .before .before .before .before .before .before .before .before .before .args in
     let b = c .before .before .before .before .before .before .before .before in
-    let line : List ℕ = replicate 18 0 in let got = (from-start line (c .before .before .before .before .before .before .before .before .before .start .ensures) (c .before .before .before .before .before .before .before .before .before .before .before .before .before .before .before .before .before .before .before .dist-records .ensures) (c .before .before .before .before .before .before .before .before .before .before .before .before .before .before .before .before .before .before .redist-records .ensures) (c .before .before .before .before .before .before .before .before .before .before .before .before .before .before .before .before .before .dist-present .ensures) (c .before .before .before .before .before .before .before .before .before .before .before .before .before .before .before .before .redist-present .ensures) refl (now (a .input)) (now (a .out)) _ _ _ _ _ _ (b .feed .ensures)) in let fits = got .fits in whole-full _ _ _ _ _ _ _ _ (b .feed .kept .1 .1 .1 .1 .1 .0) got (no-room _ _ _ _ _ _ _ _ (b .feed .kept .1 .1 .1 .1 .1 .0) got (omega (arith, c .if2 .taken)))
+    let line : List ℕ = replicate 18 0 in let got = (from-start line (c .before .before .before .before .before .before .before .before .before .start .ensures) (c .before .before .before .before .before .before .before .before .before .before .before .before .before .before .before .before .before .before .before .dist-records .ensures) (c .before .before .before .before .before .before .before .before .before .before .before .before .before .before .before .before .before .before .redist-records .ensures) (c .before .before .before .before .before .before .before .before .before .before .before .before .before .before .before .before .before .dist-present .ensures) (c .before .before .before .before .before .before .before .before .before .before .before .before .before .before .before .before .redist-present .ensures) refl (now (a .input)) (now (a .out)) _ _ _ _ _ _ (b .feed .ensures .0)) in let fits = got .fits in whole-full _ _ _ _ _ _ _ _ (b .feed .kept .1 .1 .1 .1 .1 .0) got (no-room _ _ _ _ _ _ _ _ (b .feed .kept .1 .1 .1 .1 .1 .0) got (omega (arith, c .if2 .taken)))
 
 slice-aggregate-first : tie.Need-slice-aggregate-first
 slice-aggregate-first c = search needs
@@ -79,7 +79,7 @@ returns-3 : tie.Need-returns-3
 returns-3 c =
     let a = c .before .before .before .before .before .before .before .before .before .before .before .before .before .before .before .before .before .before .before .before .before .before .before .before .before .before .before .before .before .before .args in
     let b = c .before .before .before .before .before .before .before .before .before .before .before .before .before .before .before .before in
-    let line : List ℕ = replicate 18 0 in let got = (from-start line (c .before .before .before .before .before .before .before .before .before .before .before .before .before .before .before .before .before .start .ensures) (c .before .before .before .before .before .before .before .before .before .before .before .before .before .before .before .before .before .before .before .before .before .before .before .before .before .before .before .dist-records .ensures) (c .before .before .before .before .before .before .before .before .before .before .before .before .before .before .before .before .before .before .before .before .before .before .before .before .before .before .redist-records .ensures) (c .before .before .before .before .before .before .before .before .before .before .before .before .before .before .before .before .before .before .before .before .before .before .before .before .before .dist-present .ensures) (c .before .before .before .before .before .before .before .before .before .before .before .before .before .before .before .before .before .before .before .before .before .before .before .before .redist-present .ensures) refl (now (a .input)) (now (a .out)) _ _ _ _ _ _ (b .feed .ensures)) in let fits = got .fits in whole-said _ _ _ _ _ _ _ _ (b .feed .kept .1 .1 .1 .1 .1 .0) got _ _ _ (c .before .before .before .first .ensures) (c .before .before .before .before .before .before .before .before .before .if1 .left) (omega (arith, c .before .before .before .before .before .before .before .before .if2 .left)) (c .before .before .put-ending .ensures)
+    let line : List ℕ = replicate 18 0 in let got = (from-start line (c .before .before .before .before .before .before .before .before .before .before .before .before .before .before .before .before .before .start .ensures) (c .before .before .before .before .before .before .before .before .before .before .before .before .before .before .before .before .before .before .before .before .before .before .before .before .before .before .before .dist-records .ensures) (c .before .before .before .before .before .before .before .before .before .before .before .before .before .before .before .before .before .before .before .before .before .before .before .before .before .before .redist-records .ensures) (c .before .before .before .before .before .before .before .before .before .before .before .before .before .before .before .before .before .before .before .before .before .before .before .before .before .dist-present .ensures) (c .before .before .before .before .before .before .before .before .before .before .before .before .before .before .before .before .before .before .before .before .before .before .before .before .redist-present .ensures) refl (now (a .input)) (now (a .out)) _ _ _ _ _ _ (b .feed .ensures .0)) in let fits = got .fits in whole-said _ _ _ _ _ _ _ _ (b .feed .kept .1 .1 .1 .1 .1 .0) got _ _ _ (c .before .before .before .first .ensures) (c .before .before .before .before .before .before .before .before .before .if1 .left) (omega (arith, c .before .before .before .before .before .before .before .before .if2 .left)) (c .before .before .put-ending .ensures)
 
 pub replay-spec : {M : Type 1} → statement M
 replay-spec =

@@ -1,5 +1,9 @@
+use mathlib.Core.Path.{ap, _∙_}
 use native.Mathlib.Omega.{arith}
+use lib.ListN.{take}
 use denote.Ref.{now}
+use Rattle.held.specs.Held.{Held}
+use Rattle.held.proofs.Stored.{line-held, held-end, held-byte}
 use Rattle.stream.proofs.Living.{living-end, living-byte}
 use borrow.Author.Needs.{needs}
 use Rattle.stream.proofs.piece.byte.Statement.{statement}
@@ -23,7 +27,9 @@ same-length-4 c = search needs
 returns : tie.Need-returns
 returns c =
     let a = c .before .before .before .before .before .before .before .before .before .before .before .before .before .before .before .before .before .before .args in
-    living-end (a .s) _ (now (a .line)) _ _ _ _ _ (c .before .before .before .before .before .before .before .before .before .before .before .if1 .taken) (c .before .before .before .before .before .before .line-end .ensures)
+    let e = c .before .before .before .before .before .before .line-end .ensures in
+    let ends = c .before .before .before .before .before .before .before .before .before .before .before .if1 .taken in
+    (living-end (a .s) _ (now (a .line)) _ _ _ _ _ ends (e .0), held-end (now (a .line)) (a .s .len) _ _ ends (e .1))
 
 push-requires : tie.Need-push-requires
 push-requires c κs = search needs
@@ -34,7 +40,10 @@ same-length-5 c = search needs
 returns-2 : tie.Need-returns-2
 returns-2 c =
     let a = c .before .before .before .before .before .before .before .before .before .before .before .before .args in
-    let room = c .before .before .before .before .before .before .before .before .before .before .before .before .pre in living-byte (a .s) _ (now (a .line)) _ _ _ _ _ (c .before .before .before .before .before .if1 .left) (omega arith) (c .before .before .push .kept .0) (c .before .before .push .ensures)
+    let room = c .before .before .before .before .before .before .before .before .before .before .before .before .pre in
+    let e = c .before .before .push .ensures in
+    let other = c .before .before .before .before .before .if1 .left in
+    (living-byte (a .s) _ (now (a .line)) _ _ _ _ _ other (omega arith) (c .before .before .push .kept .0) (ap (λ (h : Held). take (h .len) (h .line)) e ∙ line-held _ _), held-byte _ _ _ other e)
 
 pub byte-spec : {M : Type 1} → statement M
 byte-spec =

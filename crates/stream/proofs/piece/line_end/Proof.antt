@@ -1,3 +1,4 @@
+use mathlib.Core.Path.{refl}
 use denote.Ref.{now}
 use Rattle.stream.proofs.Living.{living-line}
 use borrow.Author.Needs.{needs}
@@ -22,7 +23,7 @@ same-length-3 c = search needs
 returns : tie.Need-returns
 returns c =
     let a = c .before .before .before .before .before .before .before .before .before .before .before .before .before .before .before .before .before .before .before .args in
-    living-line (a .s) _ (now (a .line)) _ _ _ _ _ (c .before .before .before .before .before .before .before .before .first .ensures) (c .before .before .before .before .before .before .before .line-read .ensures)
+    (living-line (a .s) _ (now (a .line)) _ _ _ _ _ (c .before .before .before .before .before .before .before .before .first .ensures) (c .before .before .before .before .before .before .before .line-read .ensures), refl)
 
 pub line-end-spec : {M : Type 1} → statement M
 line-end-spec =
