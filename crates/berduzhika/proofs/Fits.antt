@@ -29,7 +29,7 @@ use Rattle.meaning.specs.Step.{Cells, unless, typer, wordRead, read, accessAnsw
 use Rattle.meaning.proofs.Bytes.{digit-small}
 use Rattle.meaning.proofs.Families.{by-kind}
 use Rattle.words.proofs.Digits.{visible-small}
-use Rattle.layout.proofs.Ranges.{limits}
+use Rattle.homes.proofs.Ranges.{limits}
 use Rattle.engine.proofs.Facts.{shape-fits}
 
 -- a full word, and a word that holds nothing

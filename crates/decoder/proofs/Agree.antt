@@ -19,7 +19,7 @@ use Rattle.types.specs.declared.Decoded.the-variants.{At, Refused}
 use Rattle.meaning.specs.Layout.{between}
 use Rattle.meaning.specs.Registers.{base, extendedBase, distWords, redistWords, redistPlace, families, pick, inColumn, inMessages, messages, listed}
 use Rattle.meaning.proofs.Homes.{between-above}
-use Rattle.registers.specs.Map.{code, codeAt}
+use Rattle.map.specs.Map.{code, codeAt}
 use Rattle.decoder.specs.Entry.{entryOf, distPlace, redistRegister, redistWord}
 
 pub dist-agree : (k : ℕ) → k < 1024 → distPlace (entryOf (codeAt k)) (4 * k) ≡ listed Dist (4 * k)

@@ -12,7 +12,7 @@ use Rattle.types.specs.declared.Shape.{Shape}
 use Rattle.meaning.specs.Layout.{Tables, recordsOf, shapeFits, lengthsFit, wellFormed}
 use Rattle.meaning.proofs.After.{records-length}
 use Rattle.meaning.proofs.Homes.{slots}
-use Rattle.layout.specs.Span.{Presence}
+use Rattle.homes.specs.Home.{Presence}
 
 pub shape-fits : (s : Shape) (t : Tables) → wellFormed s t ≡ true → shapeFits s ≡ true
 unfolding wellFormed

@@ -3,4 +3,3 @@ pub mod Ruled
 pub mod Words
 pub mod Uses
 pub mod Named
-pub mod Slots

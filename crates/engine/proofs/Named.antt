@@ -29,10 +29,10 @@ use Rattle.meaning.proofs.Bytes.{encode-decode}
 use Rattle.meaning.proofs.Cells.{gated-true, gated-shut}
 use Rattle.meaning.proofs.Rules.{message-left, missing-left}
 use Rattle.meaning.proofs.Quiet.{message-quiet, event-quiet}
-use Rattle.layout.specs.Span.{presences, located}
-use Rattle.engine.specs.declared.event.Event.{Event}
-use Rattle.engine.specs.declared.event.Event.the-variants as event
-use Rattle.engine.specs.Event.{stepOf, answerTo, effectOf, happened, happenedAt}
+use Rattle.homes.specs.Home.{presences, located}
+use Rattle.happening.specs.declared.Event.{Event}
+use Rattle.happening.specs.declared.Event.the-variants as event
+use Rattle.happening.specs.Event.{stepOf, answerTo, effectOf, happened, happenedAt}
 use Rattle.engine.specs.Stepped.{Ruled, Stepped}
 use Rattle.engine.proofs.Facts.{table-length}
 use Rattle.engine.proofs.Ruled.{Bytes, ruled-one, ruled-elsewhere, cell-here}

@@ -17,7 +17,7 @@ use Rattle.meaning.specs.Layout.{Tables, recordsOf, homeOf, intidOf, byteAt, im
 use Rattle.meaning.specs.Step.{ruled}
 use Rattle.meaning.proofs.Bytes.{encode-decode}
 use Rattle.meaning.proofs.Homes.{slots, slot-home, home-kept}
-use Rattle.layout.proofs.Spans.{other}
+use Rattle.spans.proofs.Spans.{other}
 
 -- every element is a byte
 abbrev pub Bytes : List ℕ → Type 0

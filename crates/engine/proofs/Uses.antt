@@ -21,8 +21,9 @@ use Rattle.meaning.specs.Step.{ruled, wordRead}
 use Rattle.meaning.proofs.Homes.{slots}
 use Rattle.words.specs.declared.Word.{Word}
 use Rattle.words.specs.Part.{Fitting, gathered, stored}
-use Rattle.layout.specs.Span.{valid, frameOf, startOf, endOf, presenceIndex, inShape, shiftOf, presences, maskOf}
-use Rattle.layout.proofs.Spans.{spanned, other, first-small, digits-fit}
+use Rattle.homes.specs.Home.{presences}
+use Rattle.spans.specs.Span.{valid, frameOf, startOf, endOf, presenceIndex, inShape, shiftOf, maskOf}
+use Rattle.spans.proofs.Spans.{spanned, other, first-small, digits-fit}
 use Rattle.engine.specs.Stepped.{Ruled}
 use Rattle.engine.proofs.Facts.{table-length}
 use Rattle.engine.proofs.Ruled.{Bytes}

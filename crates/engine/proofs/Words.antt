@@ -28,10 +28,10 @@ use Rattle.meaning.proofs.Rules.{missing-unseen}
 use Rattle.meaning.proofs.Homes.{slots, slot-home, between-in, between-below, between-above}
 use Rattle.words.specs.declared.Word.{Word}
 use Rattle.words.specs.Part.{shownAt, gathered, storedAt, stored}
-use Rattle.layout.specs.Span.{valid, frameOf, startOf, endOf, maskOf}
-use Rattle.layout.proofs.Masks.{mask-bit}
-use Rattle.layout.proofs.Ranges.{range-gap}
-use Rattle.layout.proofs.Spans.{Spanned, spanned, missed, other, past-span}
+use Rattle.spans.specs.Span.{valid, frameOf, startOf, endOf, maskOf}
+use Rattle.spans.proofs.Masks.{mask-bit}
+use Rattle.homes.proofs.Ranges.{range-gap}
+use Rattle.spans.proofs.Spans.{Spanned, spanned, missed, other, past-span}
 use Rattle.engine.proofs.Facts.{shape-fits, table-length}
 use Rattle.engine.proofs.Ruled.{Bytes, ruled-same, cell-here}
 

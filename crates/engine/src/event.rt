@@ -1,68 +1,17 @@
 // The events on one interrupt: wire, activate, deactivate.
 ghost use mathlib.Core.Path.{_≡_};
-ghost use mathlib.Core.Bool.{Bool, true};
-ghost use Prim.Native.Nat.{_<_};
-ghost use lib.ListN.{length, getD};
-ghost use Rattle.meaning.specs.Cell.{decode, encode};
+ghost use mathlib.Core.Bool.{true};
 ghost use Rattle.meaning.specs.Layout.{lent, wellFormed};
-ghost use Rattle.engine.specs.Event.{stepOf, answerTo, effectOf, happenedAt};
+ghost use Rattle.happening.specs.Event.{stepOf};
 ghost use Rattle.engine.specs.Stepped.{Stepped};
-use events::activate;
-use events::activate_answer;
-use events::deactivate;
-use events::deactivate_answer;
-use events::wire;
-use events::wire_answer;
-use layout::home::locate;
+use happening::Event;
+use happening::happen_at;
+use homes::locate;
 use types::Answer;
 use types::Frame;
 use types::Home;
 use types::Refusal;
 use types::Shape;
-use types::Side;
-
-// A wire event stores a level; activation and deactivation name a side.
-pub enum Event {
-    Wire(bool),
-    Activate(Side),
-    Deactivate(Side),
-}
-
-// What an event on the implemented interrupt m, with the record r, is answered.
-fn answer_to(event: Event, m: u32, r: u8) -> Answer
-    ensures { λ a. ⌜ a ≡ answerTo event m (decode true r) ⌝ }
-{
-    match event {
-        Event::Wire(_) => wire_answer(true, m, r),
-        Event::Activate(side) => activate_answer(side, true, m, r),
-        Event::Deactivate(side) => deactivate_answer(side, true, m, r),
-    }
-}
-
-fn effect_of(event: Event, m: u32, r: u8) -> u8
-    ensures { λ x. ⌜ ((i : Bool) → x ≡ encode (effectOf event m (decode i r))) ⌝ }
-{
-    match event {
-        Event::Wire(level) => wire(level, m, r),
-        Event::Activate(_) => activate(r),
-        Event::Deactivate(_) => deactivate(r),
-    }
-}
-
-// The event at the slot of its interrupt; a refused one stores nothing.
-fn happen_at(records: &mut [u8], slot: u32, m: u32, event: Event) -> Answer
-    requires { ⌜ slot < length (now records) ⌝ }
-    ensures { λ a. ⌜ (a ≡ answerTo event m (decode true (getD (now (records .entry)) slot 0))) × (now (records .exit) ≡ happenedAt event m slot (now (records .entry))) ⌝ }
-{
-    let at = slot as usize;
-    let r = records[at];
-    let answer = answer_to(event, m, r);
-    let Answer::Done(_) = answer else {
-        return answer;
-    };
-    records[at] = effect_of(event, m, r);
-    answer
-}
 
 pub fn happen(
     dist: &mut [u8],

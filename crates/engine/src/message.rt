@@ -4,7 +4,7 @@ ghost use mathlib.Core.Bool.{true};
 ghost use Rattle.meaning.specs.Layout.{lent, wellFormed};
 ghost use Rattle.meaning.specs.Rule.{messageWritten};
 ghost use Rattle.engine.specs.Stepped.{Ruled};
-use layout::home::locate;
+use homes::locate;
 use messages::deliver;
 use types::Frame;
 use types::Home;

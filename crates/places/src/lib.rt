@@ -9,7 +9,7 @@ ghost use Rattle.meaning.specs.Layout.{lent, wellFormed, cellOf};
 ghost use Rattle.meaning.specs.Registers.{writtenValue};
 ghost use Rattle.meaning.specs.Rule.{written};
 ghost use Rattle.meaning.specs.Step.{read};
-ghost use Rattle.layout.specs.Span.{valid};
+ghost use Rattle.spans.specs.Span.{valid};
 ghost use Rattle.engine.specs.Stepped.{Ruled};
 use engine::message::send;
 use engine::typer::typer_of;

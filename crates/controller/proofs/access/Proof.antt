@@ -3,7 +3,7 @@ use denote.Ref.{now}
 use borrow.Author.Tests.{not-true, not-false}
 use Rattle.meaning.specs.Layout.{lent}
 use Rattle.meaning.specs.Rule.{access}
-use Rattle.layout.proofs.Valid.{valid-place}
+use Rattle.spans.proofs.Valid.{valid-place}
 use Rattle.controller.proofs.Outcomes.{ill, well, access-refused, access-read, access-write}
 use borrow.Author.Needs.{needs}
 use Rattle.controller.proofs.access.Statement.{statement}

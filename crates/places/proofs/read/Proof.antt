@@ -1,7 +1,7 @@
 use denote.Ref.{now}
 use Rattle.meaning.specs.Layout.{lent}
 use Rattle.meaning.specs.Step.{read}
-use Rattle.layout.proofs.Spans.{count-small}
+use Rattle.spans.proofs.Spans.{count-small}
 use Rattle.engine.proofs.Facts.{shape-fits}
 use borrow.Author.Needs.{needs}
 use Rattle.places.proofs.read.Statement.{statement}

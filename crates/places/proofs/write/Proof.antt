@@ -2,7 +2,7 @@ use mathlib.Core.Path.{refl}
 use denote.Ref.{now}
 use Rattle.meaning.specs.Layout.{lent}
 use Rattle.meaning.specs.Rule.{written}
-use Rattle.layout.proofs.Spans.{count-small}
+use Rattle.spans.proofs.Spans.{count-small}
 use Rattle.engine.proofs.Named.{quiet}
 use borrow.Author.Needs.{needs}
 use Rattle.places.proofs.write.Statement.{statement}

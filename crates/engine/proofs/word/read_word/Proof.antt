@@ -2,7 +2,7 @@ use mathlib.Core.Path.{sym, ap, _∙_}
 use denote.Ref.{now}
 use lib.ListN.{length}
 use Rattle.meaning.specs.Layout.{lent}
-use Rattle.layout.specs.Span.{frameOf}
+use Rattle.spans.specs.Span.{frameOf}
 use Rattle.engine.proofs.Facts.{presence-fits}
 use Rattle.engine.proofs.Uses.{word-fits, read-part, span-inside, part-length, records-same}
 use borrow.Author.Needs.{needs}

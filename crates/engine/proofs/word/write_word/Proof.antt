@@ -2,7 +2,7 @@ use mathlib.Core.Path.{sym, ap, _∙_}
 use denote.Ref.{now}
 use lib.ListN.{length}
 use Rattle.meaning.specs.Layout.{lent}
-use Rattle.layout.specs.declared.span.Span.{Span}
+use Rattle.spans.specs.declared.Span.{Span}
 use Rattle.engine.proofs.Facts.{presence-fits}
 use Rattle.engine.proofs.Uses.{word-fits, write-dist, write-redist, span-inside, part-length}
 use borrow.Author.Needs.{needs}

@@ -1,0 +1,4 @@
+pub mod Numbers
+pub mod Masks
+pub mod Spans
+pub mod Valid

@@ -1,0 +1,20 @@
+use native.Mathlib.Omega.{arith}
+use Rattle.spans.proofs.Numbers.{redist-covers, per-small}
+use borrow.Author.Needs.{needs}
+use Rattle.spans.proofs.redist_span.Statement.{statement}
+use Rattle.spans.proofs.redist_span.Tie as tie
+
+per-word-requires : tie.Need-per-word-requires
+per-word-requires c κs = search needs
+
+mul-whole : tie.Need-mul-whole
+mul-whole c = let cov = redist-covers (c .before .args .f) (c .before .args .n) (c .before .pre) in record { fits = rw (c .per-word .ensures) (omega arith) }
+
+whole-requires : tie.Need-whole-requires
+whole-requires c κs = let cov = redist-covers (c .before .args .f) (c .before .args .n) (c .before .pre) in let p = per-small (c .before .args .f) in rw (c .per-word .ensures) (omega arith)
+
+returns : tie.Need-returns
+returns c = rw (c .whole .ensures, c .before .per-word .ensures)
+
+pub redist-span-spec : {M : Type 1} → statement M
+redist-span-spec = tie.close (tie.spec per-word-requires mul-whole whole-requires returns)
