@@ -2,6 +2,7 @@
 // The expected output (stdout) is written from document 01 and not from this program.
 use controller::access;
 use controller::activate;
+use controller::reset;
 use controller::wire;
 use types::Access;
 use types::Answer;
@@ -261,26 +262,33 @@ fn reads(d: &mut [u8; 2012], r: &mut [u8; 96], dp: &[u32; 63], rp: &[u32; 3]) {
     }
 }
 
-// A message, and the word of INTIDs 288 to 319 after it.
+// One word, as a side reads it.
+fn word(
+    d: &mut [u8],
+    r: &mut [u8],
+    dp: &[u32],
+    rp: &[u32],
+    label: &[u8],
+    frame: Frame,
+    side: Side,
+    offset: u32,
+) {
+    io::write_all(1, label);
+    let request = Access::read(frame, side, 4, offset);
+    show(access(d, r, dp, rp, bench(), request));
+}
+
+// The word of INTIDs 288 to 319.
+fn pending(d: &mut [u8], r: &mut [u8], dp: &[u32], rp: &[u32]) {
+    word(d, r, dp, rp, b"ISPENDR9", Frame::Dist, Side::Secure, 0x224);
+}
+
+// A message, and what is pending after it.
 fn message(d: &mut [u8], r: &mut [u8], dp: &[u32], rp: &[u32], shape: Shape, value: u32) {
     number(b"message value=", value);
-    show(access(
-        d,
-        r,
-        dp,
-        rp,
-        shape,
-        Access::write(Frame::Dist, Side::Secure, 2, 0x50, value),
-    ));
-    io::write_all(1, b"ISPENDR9");
-    show(access(
-        d,
-        r,
-        dp,
-        rp,
-        shape,
-        Access::read(Frame::Dist, Side::Secure, 4, 0x224),
-    ));
+    let request = Access::write(Frame::Dist, Side::Secure, 2, 0x50, value);
+    show(access(d, r, dp, rp, shape, request));
+    pending(d, r, dp, rp);
 }
 
 // None without mbis; an INTID that is no SPI is ignored; so are the upper half of a halfword and value bits above 12.
@@ -291,22 +299,23 @@ fn messages(d: &mut [u8; 2012], r: &mut [u8; 96], dp: &[u32; 63], rp: &[u32; 3])
     message(d, r, dp, rp, bench(), 0x10000 + 8492);
 }
 
-fn sides(d: &mut [u8; 2012], r: &mut [u8; 96], dp: &[u32; 63], rp: &[u32; 3]) {
-    io::write_all(1, b"activate by the Secure side, not enabled");
-    show(activate(d, r, dp, rp, bench(), Side::Secure, 300));
-    io::write_all(1, b"activate by the Non-secure side");
-    show(activate(d, r, dp, rp, bench(), Side::NonSecure, 300));
+fn take(d: &mut [u8], r: &mut [u8], dp: &[u32], rp: &[u32], label: &[u8], side: Side) {
+    io::write_all(1, label);
+    show(activate(d, r, dp, rp, bench(), side, 300));
+}
+
+fn clear(d: &mut [u8], r: &mut [u8], dp: &[u32], rp: &[u32]) {
     io::write_all(1, b"reset");
-    show(controller::reset(d, r, dp, rp, bench()));
-    io::write_all(1, b"ISPENDR9");
-    show(access(
-        d,
-        r,
-        dp,
-        rp,
-        bench(),
-        Access::read(Frame::Dist, Side::Secure, 4, 0x224),
-    ));
+    show(reset(d, r, dp, rp, bench()));
+}
+
+fn sides(d: &mut [u8; 2012], r: &mut [u8; 96], dp: &[u32; 63], rp: &[u32; 3]) {
+    let secure = b"activate by the Secure side, not enabled";
+    take(d, r, dp, rp, secure, Side::Secure);
+    let other = b"activate by the Non-secure side";
+    take(d, r, dp, rp, other, Side::NonSecure);
+    clear(d, r, dp, rp);
+    pending(d, r, dp, rp);
 }
 
 // Tables of a wrong length: each of the four.
@@ -323,24 +332,10 @@ fn missing(d: &mut [u8; 2012], r: &mut [u8; 96], dp: &[u32; 63], rp: &[u32; 3]) 
     wire_low(d, r, dp, rp, bench(), 0);
     wire_low(d, r, dp, rp, bench(), 1);
     wire_low(d, r, dp, rp, bench(), 32);
-    io::write_all(1, b"ICFGR0");
-    show(access(
-        d,
-        r,
-        dp,
-        rp,
-        bench(),
-        Access::read(Frame::Redist, Side::Secure, 4, 0xC00),
-    ));
-    io::write_all(1, b"ICFGR0 for the Non-secure side");
-    show(access(
-        d,
-        r,
-        dp,
-        rp,
-        bench(),
-        Access::read(Frame::Redist, Side::NonSecure, 4, 0xC00),
-    ));
+    let edges = b"ICFGR0";
+    word(d, r, dp, rp, edges, Frame::Redist, Side::Secure, 0xC00);
+    let other = b"ICFGR0 for the Non-secure side";
+    word(d, r, dp, rp, other, Frame::Redist, Side::NonSecure, 0xC00);
 }
 
 fn main() {
