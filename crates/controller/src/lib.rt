@@ -9,7 +9,7 @@ ghost use mathlib.Core.Path.{_≡_};
 ghost use Rattle.meaning.specs.Layout.{lent};
 ghost use Rattle.meaning.specs.Rule as step;
 ghost use Rattle.meaning.specs.Step.{stepped};
-use decoder::decode::place_of;
+use decoder::place_of;
 use engine::event::happen;
 use engine::reset::clear;
 use happening::Event;

@@ -1,19 +1,15 @@
 -- The records behind a register word: which slots of which table, and which of them are implemented.
 use mathlib.Core.Bool.{Bool, true, false, cond, not, _&&_}
-use mathlib.Core.Path.{_≡_}
-use mathlib.Core.List.{List, []}
 use Prim.Native.Nat.{ℕ, _+_, _*_, _-_, _/_, _%_, _^_, min}
 use lib.Dec.{leb, ltb}
-use lib.ListN.{length, getD}
+use lib.ListN.{getD}
 use Rattle.types.specs.declared.Frame.{Frame}
 use Rattle.types.specs.declared.Frame.the-variants.{Dist, Redist}
 use Rattle.types.specs.declared.Shape.{Shape}
 use Rattle.types.specs.declared.Family.{Family}
 use Rattle.types.specs.declared.Place.{Place}
 use Rattle.types.specs.declared.Place.the-variants.{Word, Extended, Typer, Message}
-use Rattle.types.specs.declared.Home.{Home}
-use Rattle.types.specs.declared.Home.the-variants.{Nowhere}
-use Rattle.meaning.specs.Layout.{Tables, presenceOf, shapeFits, orElse, homeOf, implemented}
+use Rattle.meaning.specs.Layout.{Tables, presenceOf}
 use Rattle.meaning.specs.Registers.{digitBits, perWord, distWords, redistWords, low}
 
 -- a word that the decoder can answer

@@ -1,7 +1,7 @@
 use Rattle.meaning.specs.Registers.{inColumn}
 use borrow.Author.Needs.{needs}
-use Rattle.decoder.proofs.decode.extended_at.Statement.{statement}
-use Rattle.decoder.proofs.decode.extended_at.Tie as tie
+use Rattle.listing.proofs.extended_at.Statement.{statement}
+use Rattle.listing.proofs.extended_at.Tie as tie
 
 in-extended-requires : tie.Need-in-extended-requires
 in-extended-requires c κs = search needs

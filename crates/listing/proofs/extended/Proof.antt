@@ -1,6 +1,6 @@
 use borrow.Author.Needs.{needs}
-use Rattle.decoder.proofs.decode.extended.Statement.{statement}
-use Rattle.decoder.proofs.decode.extended.Tie as tie
+use Rattle.listing.proofs.extended.Statement.{statement}
+use Rattle.listing.proofs.extended.Tie as tie
 
 extended-base-requires : tie.Need-extended-base-requires
 extended-base-requires c κs = search needs

@@ -1,8 +1,8 @@
 use borrow.Author.Tests.{lt-ltb, le-ltb}
-use Rattle.decoder.specs.Entry.{redistRegister}
+use Rattle.listing.specs.Entry.{redistRegister}
 use borrow.Author.Needs.{needs}
-use Rattle.decoder.proofs.decode.redist_register.Statement.{statement}
-use Rattle.decoder.proofs.decode.redist_register.Tie as tie
+use Rattle.listing.proofs.redist_register.Statement.{statement}
+use Rattle.listing.proofs.redist_register.Tie as tie
 
 redist-words-requires : tie.Need-redist-words-requires
 redist-words-requires c κs = search needs

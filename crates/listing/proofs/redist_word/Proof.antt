@@ -1,9 +1,9 @@
 use mathlib.Core.Path.{ap, _∙_}
 use Prim.Native.Nat.{ℕ}
-use Rattle.decoder.specs.Entry.{redistRegister, redistWord}
+use Rattle.listing.specs.Entry.{redistRegister, redistWord}
 use borrow.Author.Needs.{needs}
-use Rattle.decoder.proofs.decode.redist_word.Statement.{statement}
-use Rattle.decoder.proofs.decode.redist_word.Tie as tie
+use Rattle.listing.proofs.redist_word.Statement.{statement}
+use Rattle.listing.proofs.redist_word.Tie as tie
 
 enum-known-entry : tie.Need-enum-known-entry
 enum-known-entry c = search needs

@@ -1,11 +1,11 @@
 use mathlib.Core.Path.{_≡_, sym, ap, _∙_}
 use Prim.Native.Nat.{ℕ, _*_, _/_}
 use native.Mathlib.Omega.{arith}
-use Rattle.decoder.specs.Entry.{entryOf, distPlace, redistWord}
-use Rattle.decoder.proofs.Agree.{dist-agree, redist-agree, dist-beyond, redist-beyond}
+use Rattle.listing.specs.Entry.{entryOf, distPlace, redistWord}
+use Rattle.listing.proofs.Agree.{dist-agree, redist-agree, dist-beyond, redist-beyond}
 use borrow.Author.Needs.{needs}
-use Rattle.decoder.proofs.decode.listed_at.Statement.{statement}
-use Rattle.decoder.proofs.decode.listed_at.Tie as tie
+use Rattle.listing.proofs.listed_at.Statement.{statement}
+use Rattle.listing.proofs.listed_at.Tie as tie
 
 cast-code-at : tie.Need-cast-code-at
 cast-code-at c = search needs

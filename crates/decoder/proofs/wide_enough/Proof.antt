@@ -1,6 +1,6 @@
 use borrow.Author.Needs.{needs}
-use Rattle.decoder.proofs.decode.wide_enough.Statement.{statement}
-use Rattle.decoder.proofs.decode.wide_enough.Tie as tie
+use Rattle.decoder.proofs.wide_enough.Statement.{statement}
+use Rattle.decoder.proofs.wide_enough.Tie as tie
 
 enum-told : tie.Need-enum-told
 enum-told c = search needs

@@ -1,4 +1,4 @@
-// From a frame, a width and an offset to the register word, or to the first of refusals 2 to 6 that applies.
+// The listed registers: the place of the word at an offset of a frame, or refusal 5.
 ghost use mathlib.Core.Path.{_≡_};
 ghost use Prim.Native.Nat.{_+_, _*_, _-_, _/_, _%_, _<_, _≤_};
 ghost use Rattle.types.specs.declared.Frame.the-variants.{Dist};
@@ -6,9 +6,8 @@ ghost use Rattle.types.specs.declared.Place.the-variants as place;
 ghost use Rattle.types.specs.declared.Refusal.the-variants as refusal;
 ghost use Rattle.types.specs.declared.Decoded.the-variants.{At, Refused};
 ghost use Rattle.meaning.specs.Layout.{between};
-ghost use Rattle.meaning.specs.Registers.{extendedBase, distWords, inColumn, families, listed, wideEnough, narrow, placeOf};
-ghost use Rattle.decoder.specs.Entry.{entryOf, distPlace, redistRegister, redistWord};
-use crate::Entry;
+ghost use Rattle.meaning.specs.Registers.{extendedBase, distWords, inColumn, families, listed};
+ghost use Rattle.listing.specs.Entry.{entryOf, distPlace, redistRegister, redistWord};
 use families::base;
 use families::digit_bits;
 use families::extended_base;
@@ -21,6 +20,14 @@ use types::Frame;
 use types::Message;
 use types::Place;
 use types::Refusal;
+
+// What an entry of the register map stands for.
+pub enum Entry {
+    Register(Family),
+    Message(Message),
+    Typer,
+    None,
+}
 
 fn entry_of(code: u8) -> Entry
     ensures { λ r. ⌜ r ≡ entryOf code ⌝ }
@@ -145,7 +152,7 @@ fn extended_at(offset: u32) -> Decoded
 }
 
 // The place of the word at an offset that is a multiple of 4. The map covers both frames' first 4 KiB.
-fn listed_at(frame: Frame, offset: u32) -> Decoded
+pub fn listed_at(frame: Frame, offset: u32) -> Decoded
     requires { ⌜ offset % 4 ≡ 0 ⌝ }
     ensures { λ d. ⌜ d ≡ listed frame offset ⌝ }
 {
@@ -160,46 +167,4 @@ fn listed_at(frame: Frame, offset: u32) -> Decoded
         Frame::Dist => extended_at(offset),
         Frame::Redist => Decoded::Refused(Refusal::Unlisted),
     }
-}
-
-// Width 2 is for the message registers alone, at their own offset.
-fn wide_enough(width: u32, low: u32, place: Place) -> bool
-    ensures { λ r. ⌜ r ≡ wideEnough width low place ⌝ }
-{
-    match place {
-        Place::Word(_, _, _) => width == 4,
-        Place::Extended(_, _, _) => width == 4,
-        Place::Typer => width == 4,
-        Place::Message(_) => low == 0,
-    }
-}
-
-fn narrowed(width: u32, low: u32, found: Decoded) -> Decoded
-    ensures { λ d. ⌜ d ≡ narrow width low found ⌝ }
-{
-    let Decoded::At(place) = found else {
-        return found;
-    };
-    if wide_enough(width, low, place) {
-        Decoded::At(place)
-    } else {
-        Decoded::Refused(Refusal::Narrow)
-    }
-}
-
-// The decoder: refusals 2 to 6 in order, or the place.
-pub fn place_of(frame: Frame, width: u32, offset: u32) -> Decoded
-    ensures { λ d. ⌜ d ≡ placeOf frame width offset ⌝ }
-{
-    if !((width == 2) | (width == 4)) {
-        return Decoded::Refused(Refusal::Width);
-    }
-    if offset % width != 0 {
-        return Decoded::Refused(Refusal::Alignment);
-    }
-    if 65535 < offset {
-        return Decoded::Refused(Refusal::Offset);
-    }
-    let low = offset % 4;
-    narrowed(width, low, listed_at(frame, offset - low))
 }

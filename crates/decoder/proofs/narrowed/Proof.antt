@@ -1,6 +1,6 @@
 use borrow.Author.Needs.{needs}
-use Rattle.decoder.proofs.decode.narrowed.Statement.{statement}
-use Rattle.decoder.proofs.decode.narrowed.Tie as tie
+use Rattle.decoder.proofs.narrowed.Statement.{statement}
+use Rattle.decoder.proofs.narrowed.Tie as tie
 
 enum-known-found : tie.Need-enum-known-found
 enum-known-found c = search needs

@@ -2,10 +2,10 @@ use mathlib.Core.Path.{sym}
 use native.Mathlib.Omega.{arith}
 use borrow.Author.Tests.{le-leb}
 use Rattle.meaning.proofs.Homes.{between-below}
-use Rattle.decoder.proofs.Agree.{extended-small, words-small}
+use Rattle.listing.proofs.Agree.{extended-small, words-small}
 use borrow.Author.Needs.{needs}
-use Rattle.decoder.proofs.decode.in_extended.Statement.{statement}
-use Rattle.decoder.proofs.decode.in_extended.Tie as tie
+use Rattle.listing.proofs.in_extended.Statement.{statement}
+use Rattle.listing.proofs.in_extended.Tie as tie
 
 extended-base-requires : tie.Need-extended-base-requires
 extended-base-requires c κs = search needs

@@ -4,10 +4,10 @@ use native.Mathlib.Omega.{arith}
 use borrow.Author.Tests.{eq-eqb, ne-eqb, lt-ltb, le-ltb}
 use Rattle.types.specs.declared.Decoded.{Decoded}
 use Rattle.meaning.specs.Registers.{placeOf, narrow}
-use Rattle.decoder.proofs.Agree.{width-known}
+use Rattle.decoder.proofs.Widths.{width-known}
 use borrow.Author.Needs.{needs}
-use Rattle.decoder.proofs.decode.place_of.Statement.{statement}
-use Rattle.decoder.proofs.decode.place_of.Tie as tie
+use Rattle.decoder.proofs.place_of.Statement.{statement}
+use Rattle.decoder.proofs.place_of.Tie as tie
 
 returns : tie.Need-returns
 unfolding placeOf

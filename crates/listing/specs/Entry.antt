@@ -11,8 +11,8 @@ use Rattle.types.specs.declared.Refusal.the-variants as refusal
 use Rattle.types.specs.declared.Decoded.{Decoded}
 use Rattle.types.specs.declared.Decoded.the-variants.{At, Refused}
 use Rattle.meaning.specs.Registers.{base, redistWords, redistPlace, pick}
-use Rattle.decoder.specs.declared.Entry.{Entry}
-use Rattle.decoder.specs.declared.Entry.the-variants as entry
+use Rattle.listing.specs.declared.Entry.{Entry}
+use Rattle.listing.specs.declared.Entry.the-variants as entry
 
 abbrev pub choose : Bool → Entry → Entry → Entry
 choose true a b = a

@@ -1,7 +1,7 @@
-use Rattle.decoder.specs.Entry.{distPlace}
+use Rattle.listing.specs.Entry.{distPlace}
 use borrow.Author.Needs.{needs}
-use Rattle.decoder.proofs.decode.dist_place.Statement.{statement}
-use Rattle.decoder.proofs.decode.dist_place.Tie as tie
+use Rattle.listing.proofs.dist_place.Statement.{statement}
+use Rattle.listing.proofs.dist_place.Tie as tie
 
 enum-known-entry : tie.Need-enum-known-entry
 enum-known-entry c = search needs

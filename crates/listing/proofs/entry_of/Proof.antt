@@ -1,8 +1,8 @@
 use borrow.Author.Needs.{needs}
 use borrow.Author.Tests.{ne-eqb}
-use Rattle.decoder.specs.Entry.{entryOf}
-use Rattle.decoder.proofs.decode.entry_of.Statement.{statement}
-use Rattle.decoder.proofs.decode.entry_of.Tie as tie
+use Rattle.listing.specs.Entry.{entryOf}
+use Rattle.listing.proofs.entry_of.Statement.{statement}
+use Rattle.listing.proofs.entry_of.Tie as tie
 
 returns : tie.Need-returns
 unfolding entryOf

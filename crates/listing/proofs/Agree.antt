@@ -1,12 +1,10 @@
 -- The map and the meaning agree: at every word of the first 4 KiB by one computation a frame, and beyond it by the ends of the ranges.
 use mathlib.Core.Path.{_≡_, refl, sym, ap, _∙_}
-use mathlib.Core.Bool.{Bool, true, false, not, _||_}
 use mathlib.Core.List.{List, [], _∷_}
 use Prim.Native.Nat.{ℕ, _+_, _*_, _-_, _/_, _≤_, _<_}
 use native.Mathlib.Omega.{arith}
 use lib.Dec.{eqb}
-use borrow.Author.Tests.{eqb-true, ne-eqb}
-use Rattle.lists.proofs.Bools.{clash}
+use borrow.Author.Tests.{ne-eqb}
 use Rattle.lists.proofs.Tables.{tabulate-same}
 use Rattle.types.specs.declared.Frame.the-variants.{Dist, Redist}
 use Rattle.types.specs.declared.Family.{Family}
@@ -20,7 +18,7 @@ use Rattle.meaning.specs.Layout.{between}
 use Rattle.meaning.specs.Registers.{base, extendedBase, distWords, redistWords, redistPlace, families, pick, inColumn, inMessages, messages, listed}
 use Rattle.meaning.proofs.Homes.{between-above}
 use Rattle.map.specs.Map.{code, codeAt}
-use Rattle.decoder.specs.Entry.{entryOf, distPlace, redistRegister, redistWord}
+use Rattle.listing.specs.Entry.{entryOf, distPlace, redistRegister, redistWord}
 
 pub dist-agree : (k : ℕ) → k < 1024 → distPlace (entryOf (codeAt k)) (4 * k) ≡ listed Dist (4 * k)
 unfolding distPlace entryOf codeAt code listed inColumn inMessages
@@ -66,12 +64,3 @@ extended-small = elim [ Igroupr ↦ omega arith | Isenabler ↦ omega arith | Ic
 
 pub words-small : (f : Family) → distWords f ≤ 64
 words-small = elim [ Igroupr ↦ omega arith | Isenabler ↦ omega arith | Icenabler ↦ omega arith | Ispendr ↦ omega arith | Icpendr ↦ omega arith | Isactiver ↦ omega arith | Icactiver ↦ omega arith | Igrpmodr ↦ omega arith | Icfgr ↦ omega arith ]
-
--- a width that is not refused is no 0
-pub width-known : (w : ℕ) → not (eqb w 2 || eqb w 4) ≡ false → 2 ≤ w
-width-known w h = by (eqb w 2) (eqb w 4) refl refl h
-  where
-    by : (a b : Bool) → eqb w 2 ≡ a → eqb w 4 ≡ b → not (a || b) ≡ false → 2 ≤ w
-    by true b e k t = let z = eqb-true w 2 e in omega arith
-    by false true e k t = let z = eqb-true w 4 k in omega arith
-    by false false e k t = absurd (clash refl t)
