@@ -9,8 +9,6 @@ use Rattle.lists.proofs.Maps.{mapFrom-cong}
 use Rattle.types.specs.declared.Frame.{Frame}
 use Rattle.types.specs.declared.Frame.the-variants.{Dist, Redist}
 use Rattle.types.specs.declared.Shape.{Shape}
-use Rattle.types.specs.declared.Way.{Way}
-use Rattle.types.specs.declared.Way.the-variants.{Read, Write}
 use Rattle.types.specs.declared.Access.{Access}
 use Rattle.types.specs.declared.Place.{Place}
 use Rattle.types.specs.declared.Refusal.{Refusal}
@@ -21,13 +19,14 @@ use Rattle.types.specs.declared.Answer.{Answer}
 use Rattle.types.specs.declared.Answer.the-variants.{Done, Refused}
 use Rattle.meaning.specs.Cell.{Cell, decode}
 use Rattle.meaning.specs.Layout.{Tables, lent, recordsOf, wellFormed, intidOf, implemented, cellOf}
-use Rattle.meaning.specs.Registers.{placeOf, writtenValue}
-use Rattle.meaning.specs.Rule.{Step, access, reset, written, accessed, act}
-use Rattle.meaning.specs.Step.{Outcome, unless, read, accessAnswer, answer, ruled, recordsAfter, tablesAfter, stepped}
+use Rattle.meaning.specs.Registers.{placeOf}
+use Rattle.meaning.specs.Rule.{Step, access, reset, accessed, act}
+use Rattle.meaning.specs.Step.{Outcome, unless, accessAnswer, answer, ruled, recordsAfter, tablesAfter, stepped}
 use Rattle.meaning.proofs.Effects.{reset-zero}
 use Rattle.engine.specs.Stepped.{zeroed, Ruled, Stepped}
 use Rattle.engine.proofs.Ruled.{Bytes}
 use Rattle.engine.proofs.Named.{quiet}
+use Rattle.places.proofs.Ways.{Accessed}
 
 -- refusal 1
 pub ill : (s : Shape) (q : Step) (t : Tables) → wellFormed s t ≡ false → _≡_ {A = Outcome} (record { answered = Refused refusal.Shape; tables = t }) (stepped s q t)
@@ -60,23 +59,12 @@ module _ (s : Shape) (t : Tables) (bd : Bytes (t .dist)) (br : Bytes (t .redist)
       stepped-by s (access a) t (Refused r) (t .dist) (t .redist) (sym (ap (λ (d : Decoded). accessAnswer s a d (cellOf s t)) h)) (λ m c. c)
       (λ m c. ap (λ (d : Decoded). accessed s a d m c) h) (quiet s t (λ m c. c) bd br (λ m byte. refl))
 
-  pub access-read : (p : Place) (v : ℕ) → placeOf (a .frame) (a .width) (a .offset) ≡ decoded.At p → a .way ≡ Read → v ≡ read s (a .side) p (cellOf s t)
-      → Stepped s (access a) t (Done v) (t .dist) (t .redist)
+  pub access-done : (p : Place) (x : Answer) (d r : List ℕ) → placeOf (a .frame) (a .width) (a .offset) ≡ decoded.At p → Accessed s t a p x d r
+      → Stepped s (access a) t x d r
   unfolding act answer
-  access-read p v h w e =
-      stepped-by s (access a) t (Done v) (t .dist) (t .redist)
-      (ap Done e ∙ sym (ap (λ (d : Decoded). accessAnswer s a d (cellOf s t)) h ∙ ap (λ (x : Way). elim x as (λ z. Answer) [ Read ↦ Done (read s (a .side) p (cellOf s t)) | Write ↦ Done 0 ]) w)) (λ m c. c)
-      (λ m c. ap (λ (d : Decoded). accessed s a d m c) h ∙ ap (λ (x : Way). elim x as (λ z. Cell) [ Read ↦ c | Write ↦ written s (a .side) p (writtenValue (a .width) (a .value)) m c ]) w)
-      (quiet s t (λ m c. c) bd br (λ m byte. refl))
-
-  pub access-write : (p : Place) (d r : List ℕ) → placeOf (a .frame) (a .width) (a .offset) ≡ decoded.At p → a .way ≡ Write
-      → Ruled s t (written s (a .side) p (writtenValue (a .width) (a .value))) d r → Stepped s (access a) t (Done 0) d r
-  unfolding act answer
-  access-write p d r h w k =
-      stepped-by s (access a) t (Done 0) d r
-      (sym (ap (λ (x : Decoded). accessAnswer s a x (cellOf s t)) h ∙ ap (λ (x : Way). elim x as (λ z. Answer) [ Read ↦ Done (read s (a .side) p (cellOf s t)) | Write ↦ Done 0 ]) w))
-      (written s (a .side) p (writtenValue (a .width) (a .value)))
-      (λ m c. ap (λ (x : Decoded). accessed s a x m c) h ∙ ap (λ (x : Way). elim x as (λ z. Cell) [ Read ↦ c | Write ↦ written s (a .side) p (writtenValue (a .width) (a .value)) m c ]) w) k
+  access-done p x d r h k =
+      stepped-by s (access a) t x d r (k .0 ∙ sym (ap (λ (y : Decoded). accessAnswer s a y (cellOf s t)) h)) (accessed s a (decoded.At p))
+      (λ m c. ap (λ (y : Decoded). accessed s a y m c) h) (k .1)
 
 -- reset
 reset-records : (s : Shape) (t : Tables) (r : Frame) → mapFrom 0 zeroed (recordsOf r t) ≡ recordsAfter s reset t r

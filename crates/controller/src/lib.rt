@@ -13,13 +13,14 @@ use decoder::place_of;
 use engine::event::happen;
 use engine::reset::clear;
 use happening::Event;
+use places::accessed;
+use places::refused;
 use tables::well_formed;
 use types::Answer;
 use types::Decoded;
 use types::Refusal;
 use types::Shape;
 use types::Side;
-use types::Way;
 
 // A read or a write at an offset of a frame.
 pub fn access(
@@ -38,35 +39,17 @@ pub fn access(
     let frame = request.frame;
     let found = place_of(frame, request.width, request.offset);
     let Decoded::At(place) = found else {
-        return places::refused(found);
+        return refused(found);
     };
-    let side = request.side;
-    let way = request.way;
-    match way {
-        Way::Read => Answer::Done(places::read(
-            dist,
-            redist,
-            dist_presence,
-            redist_presence,
-            shape,
-            side,
-            place,
-        )),
-        Way::Write => {
-            let value = places::value_of(request.width, request.value);
-            places::write(
-                dist,
-                redist,
-                dist_presence,
-                redist_presence,
-                shape,
-                side,
-                place,
-                value,
-            );
-            Answer::Done(0)
-        }
-    }
+    accessed(
+        dist,
+        redist,
+        dist_presence,
+        redist_presence,
+        shape,
+        request,
+        place,
+    )
 }
 
 // A wire event: the interrupt's signal goes to `level`.

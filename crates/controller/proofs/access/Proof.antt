@@ -1,10 +1,10 @@
-use mathlib.Core.Path.{sym, ap, _∙_}
+use mathlib.Core.Path.{sym, _∙_}
 use denote.Ref.{now}
 use borrow.Author.Tests.{not-true, not-false}
 use Rattle.meaning.specs.Layout.{lent}
 use Rattle.meaning.specs.Rule.{access}
 use Rattle.spans.proofs.Valid.{valid-place}
-use Rattle.controller.proofs.Outcomes.{ill, well, access-refused, access-read, access-write}
+use Rattle.controller.proofs.Outcomes.{ill, well, access-refused, access-done}
 use borrow.Author.Needs.{needs}
 use Rattle.controller.proofs.access.Statement.{statement}
 use Rattle.controller.proofs.access.Tie as tie
@@ -19,8 +19,7 @@ same-length-2 : tie.Need-same-length-2
 same-length-2 c = search needs
 
 returns : tie.Need-returns
-returns c =
-    let a = c .before .before .before .before .before .before .before .before .args in
+returns c = let a = c .before .before .before .before .before .before .before .before .args in
     ill (a .shape) (access (a .request)) (lent (now (a .dist)) (now (a .redist)) (now (a .dist-presence)) (now (a .redist-presence))) (sym (c .before .well-formed .ensures) ∙ not-true (c .before .well-formed .result) (c .if1 .taken))
 
 place-of-requires : tie.Need-place-of-requires
@@ -42,29 +41,13 @@ same-length-4 : tie.Need-same-length-4
 same-length-4 c = search needs
 
 returns-2 : tie.Need-returns-2
-returns-2 c =
-    let a = c .before .before .before .before .before .before .before .before .before .before .before .before .args in
-    let b = c .before .before .before .before .before in
-    rw (c .refused .ensures _ (c .before .enum-told .given .1)) (well (a .shape) (access (a .request)) (lent (now (a .dist)) (now (a .redist)) (now (a .dist-presence)) (now (a .redist-presence))) (sym (b .well-formed .ensures) ∙ not-false (b .well-formed .result) (c .before .before .before .before .if1 .left)) _ _ _ (access-refused (a .shape) (lent (now (a .dist)) (now (a .redist)) (now (a .dist-presence)) (now (a .redist-presence))) (λ k. c .before .before .before .before .before .before .before .before .before .before .before .slice-known .given k .fits) (λ k. c .before .before .before .before .before .before .before .before .before .before .slice-known2 .given k .fits) (a .request) _ (sym (c .before .before .before .place-of .ensures) ∙ c .before .enum-told .given .1)))
+returns-2 c = let a = c .before .before .before .before .before .before .before .before .before .before .before .before .args in
+    let t = lent (now (a .dist)) (now (a .redist)) (now (a .dist-presence)) (now (a .redist-presence)) in
+    let fits = sym (c .before .before .before .before .before .well-formed .ensures) ∙ not-false (c .before .before .before .before .before .well-formed .result) (c .before .before .before .before .if1 .left) in
+    rw (c .refused .ensures _ (c .before .enum-told .given .1)) (well (a .shape) (access (a .request)) t fits _ _ _ (access-refused (a .shape) t (λ k. c .before .before .before .before .before .before .before .before .before .before .before .slice-known .given k .fits) (λ k. c .before .before .before .before .before .before .before .before .before .before .slice-known2 .given k .fits) (a .request) _ (sym (c .before .before .before .place-of .ensures) ∙ c .before .enum-told .given .1)))
 
-enum-told-2 : tie.Need-enum-told-2
-enum-told-2 c = search needs
-
-read-requires : tie.Need-read-requires
-read-requires c κs =
-    let b = c .before .before .before .before .before .before .before .before .before in
-    ((sym (b .well-formed .ensures) ∙ not-false (b .well-formed .result) (c .before .before .before .before .before .before .before .before .if1 .left)), valid-place _ _ _ _ (sym (c .before .before .before .before .before .before .before .place-of .ensures) ∙ c .before .before .before .before .before .found .given .1))
-
-enum-told-3 : tie.Need-enum-told-3
-enum-told-3 c = search needs
-
-value-of-requires : tie.Need-value-of-requires
-value-of-requires c κs = search needs
-
-write-requires : tie.Need-write-requires
-write-requires c κs =
-    let b = c .before .before .before .before .before .before .before .before .before .before in
-    ((sym (b .well-formed .ensures) ∙ not-false (b .well-formed .result) (c .before .before .before .before .before .before .before .before .before .if1 .left)), valid-place _ _ _ _ (sym (c .before .before .before .before .before .before .before .before .place-of .ensures) ∙ c .before .before .before .before .before .before .found .given .1))
+accessed-requires : tie.Need-accessed-requires
+accessed-requires c κs = (sym (c .before .before .before .before .before .before .before .well-formed .ensures) ∙ not-false (c .before .before .before .before .before .before .before .well-formed .result) (c .before .before .before .before .before .before .if1 .left), valid-place _ _ _ _ (sym (c .before .before .before .before .before .place-of .ensures) ∙ c .before .before .before .found .given .1))
 
 same-length-5 : tie.Need-same-length-5
 same-length-5 c = search needs
@@ -73,22 +56,10 @@ same-length-6 : tie.Need-same-length-6
 same-length-6 c = search needs
 
 returns-3 : tie.Need-returns-3
-returns-3 c =
-    let a = c .before .before .before .before .before .before .before .before .before .before .before .before .before .before .before .before .before .args in
-    let b = c .before .before .before .before .before .before .before .before .before .before in
-    well (a .shape) (access (a .request)) (lent (now (a .dist)) (now (a .redist)) (now (a .dist-presence)) (now (a .redist-presence))) (sym (b .well-formed .ensures) ∙ not-false (b .well-formed .result) (c .before .before .before .before .before .before .before .before .before .if1 .left)) _ _ _ (access-read (a .shape) (lent (now (a .dist)) (now (a .redist)) (now (a .dist-presence)) (now (a .redist-presence))) (λ k. c .before .before .before .before .before .before .before .before .before .before .before .before .before .before .before .before .slice-known .given k .fits) (λ k. c .before .before .before .before .before .before .before .before .before .before .before .before .before .before .before .slice-known2 .given k .fits) (a .request) _ _ (sym (c .before .before .before .before .before .before .before .before .place-of .ensures) ∙ c .before .before .before .before .before .before .found .given .1) (c .before .before .before .enum-told2 .given .1) (c .read .ensures))
-
-same-length-7 : tie.Need-same-length-7
-same-length-7 c = search needs
-
-same-length-8 : tie.Need-same-length-8
-same-length-8 c = search needs
-
-returns-4 : tie.Need-returns-4
-returns-4 c =
-    let a = c .before .before .before .before .before .before .before .before .before .before .before .before .before .before .before .before .before .before .before .before .before .before .args in
-    let b = c .before .before .before .before .before .before .before .before .before .before .before .before .before .before .before in
-    well (a .shape) (access (a .request)) (lent (now (a .dist)) (now (a .redist)) (now (a .dist-presence)) (now (a .redist-presence))) (sym (b .well-formed .ensures) ∙ not-false (b .well-formed .result) (c .before .before .before .before .before .before .before .before .before .before .before .before .before .before .if1 .left)) _ _ _ (access-write (a .shape) (lent (now (a .dist)) (now (a .redist)) (now (a .dist-presence)) (now (a .redist-presence))) (λ k. c .before .before .before .before .before .before .before .before .before .before .before .before .before .before .before .before .before .before .before .before .before .slice-known .given k .fits) (λ k. c .before .before .before .before .before .before .before .before .before .before .before .before .before .before .before .before .before .before .before .before .slice-known2 .given k .fits) (a .request) _ _ _ (sym (c .before .before .before .before .before .before .before .before .before .before .before .before .before .place-of .ensures) ∙ c .before .before .before .before .before .before .before .before .before .before .before .found .given .1) (c .before .before .before .before .before .before .before .before .enum-told3 .given .1) (rw (c .before .before .before .before .before .before .before .value-of .ensures) at (c .before .before .before .before .write .ensures)))
+returns-3 c = let a = c .before .before .before .before .before .before .before .before .before .before .before .before .before .before .before .before .before .before .before .args in
+    let t = lent (now (a .dist)) (now (a .redist)) (now (a .dist-presence)) (now (a .redist-presence)) in
+    let fits = sym (c .before .before .before .before .before .before .before .before .before .before .before .before .well-formed .ensures) ∙ not-false (c .before .before .before .before .before .before .before .before .before .before .before .before .well-formed .result) (c .before .before .before .before .before .before .before .before .before .before .before .if1 .left) in
+    well (a .shape) (access (a .request)) t fits _ _ _ (access-done (a .shape) t (λ k. c .before .before .before .before .before .before .before .before .before .before .before .before .before .before .before .before .before .before .slice-known .given k .fits) (λ k. c .before .before .before .before .before .before .before .before .before .before .before .before .before .before .before .before .before .slice-known2 .given k .fits) (a .request) _ _ _ _ (sym (c .before .before .before .before .before .before .before .before .before .before .place-of .ensures) ∙ c .before .before .before .before .before .before .before .before .found .given .1) (c .before .before .before .before .accessed .ensures))
 
 pub access-spec : {M : Type 1} → statement M
 access-spec =
@@ -105,14 +76,7 @@ access-spec =
     same-length-3
     same-length-4
     returns-2
-    enum-told-2
-    read-requires
-    enum-told-3
-    value-of-requires
-    write-requires
+    accessed-requires
     same-length-5
     same-length-6
-    returns-3
-    same-length-7
-    same-length-8
-    returns-4)
+    returns-3)
