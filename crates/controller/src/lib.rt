@@ -9,6 +9,7 @@ ghost use mathlib.Core.Path.{_≡_};
 ghost use Rattle.meaning.specs.Layout.{lent};
 ghost use Rattle.meaning.specs.Rule as step;
 ghost use Rattle.meaning.specs.Step.{stepped};
+ghost use Rattle.happening.specs.Event.{stepOf};
 use decoder::place_of;
 use engine::event::happen;
 use engine::reset::clear;
@@ -52,6 +53,32 @@ pub fn access(
     )
 }
 
+// An event, behind refusal 1.
+fn judged(
+    dist: &mut [u8],
+    redist: &mut [u8],
+    dist_presence: &[u32],
+    redist_presence: &[u32],
+    shape: Shape,
+    intid: u32,
+    event: Event,
+) -> Answer
+    ensures { λ a. ⌜ record { answered = a; tables = lent (now (dist .exit)) (now (redist .exit)) (now («dist_presence» .entry)) (now («redist_presence» .entry)) } ≡ stepped shape (stepOf event intid) (lent (now (dist .entry)) (now (redist .entry)) (now («dist_presence» .entry)) (now («redist_presence» .entry))) ⌝ }
+{
+    if !well_formed(shape, dist, redist, dist_presence, redist_presence) {
+        return Answer::Refused(Refusal::Shape);
+    }
+    happen(
+        dist,
+        redist,
+        dist_presence,
+        redist_presence,
+        shape,
+        intid,
+        event,
+    )
+}
+
 // A wire event: the interrupt's signal goes to `level`.
 pub fn wire(
     dist: &mut [u8],
@@ -64,10 +91,7 @@ pub fn wire(
 ) -> Answer
     ensures { λ a. ⌜ record { answered = a; tables = lent (now (dist .exit)) (now (redist .exit)) (now («dist_presence» .entry)) (now («redist_presence» .entry)) } ≡ stepped shape (step.wire intid level) (lent (now (dist .entry)) (now (redist .entry)) (now («dist_presence» .entry)) (now («redist_presence» .entry))) ⌝ }
 {
-    if !well_formed(shape, dist, redist, dist_presence, redist_presence) {
-        return Answer::Refused(Refusal::Shape);
-    }
-    happen(
+    judged(
         dist,
         redist,
         dist_presence,
@@ -90,10 +114,7 @@ pub fn activate(
 ) -> Answer
     ensures { λ a. ⌜ record { answered = a; tables = lent (now (dist .exit)) (now (redist .exit)) (now («dist_presence» .entry)) (now («redist_presence» .entry)) } ≡ stepped shape (step.activate side intid) (lent (now (dist .entry)) (now (redist .entry)) (now («dist_presence» .entry)) (now («redist_presence» .entry))) ⌝ }
 {
-    if !well_formed(shape, dist, redist, dist_presence, redist_presence) {
-        return Answer::Refused(Refusal::Shape);
-    }
-    happen(
+    judged(
         dist,
         redist,
         dist_presence,
@@ -116,10 +137,7 @@ pub fn deactivate(
 ) -> Answer
     ensures { λ a. ⌜ record { answered = a; tables = lent (now (dist .exit)) (now (redist .exit)) (now («dist_presence» .entry)) (now («redist_presence» .entry)) } ≡ stepped shape (step.deactivate side intid) (lent (now (dist .entry)) (now (redist .entry)) (now («dist_presence» .entry)) (now («redist_presence» .entry))) ⌝ }
 {
-    if !well_formed(shape, dist, redist, dist_presence, redist_presence) {
-        return Answer::Refused(Refusal::Shape);
-    }
-    happen(
+    judged(
         dist,
         redist,
         dist_presence,

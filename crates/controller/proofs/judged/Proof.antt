@@ -2,11 +2,11 @@ use mathlib.Core.Path.{sym, ap, _∙_}
 use denote.Ref.{now}
 use borrow.Author.Tests.{not-true, not-false}
 use Rattle.meaning.specs.Layout.{lent}
-use Rattle.meaning.specs.Rule.{wire}
+use Rattle.happening.specs.Event.{stepOf}
 use Rattle.controller.proofs.Outcomes.{ill, well}
 use borrow.Author.Needs.{needs}
-use Rattle.controller.proofs.wire.Statement.{statement}
-use Rattle.controller.proofs.wire.Tie as tie
+use Rattle.controller.proofs.judged.Statement.{statement}
+use Rattle.controller.proofs.judged.Tie as tie
 
 well-formed-requires : tie.Need-well-formed-requires
 well-formed-requires c κs = search needs
@@ -20,7 +20,7 @@ same-length-2 c = search needs
 returns : tie.Need-returns
 returns c =
     let a = c .before .before .before .before .before .before .before .before .args in
-    ill (a .shape) (wire (a .intid) (a .level)) (lent (now (a .dist)) (now (a .redist)) (now (a .dist-presence)) (now (a .redist-presence))) (sym (c .before .well-formed .ensures) ∙ not-true (c .before .well-formed .result) (c .if1 .taken))
+    ill (a .shape) (stepOf (a .event) (a .intid)) (lent (now (a .dist)) (now (a .redist)) (now (a .dist-presence)) (now (a .redist-presence))) (sym (c .before .well-formed .ensures) ∙ not-true (c .before .well-formed .result) (c .if1 .taken))
 
 happen-requires : tie.Need-happen-requires
 happen-requires c κs = (sym (c .before .before .before .well-formed .ensures) ∙ not-false (c .before .before .before .well-formed .result) (c .before .before .if1 .left))
@@ -35,10 +35,10 @@ returns-2 : tie.Need-returns-2
 returns-2 c =
     let a = c .before .before .before .before .before .before .before .before .before .before .before .before .before .before .before .args in
     let b = c .before .before .before .before .before .before .before .before in
-    well (a .shape) (wire (a .intid) (a .level)) (lent (now (a .dist)) (now (a .redist)) (now (a .dist-presence)) (now (a .redist-presence))) (sym (b .well-formed .ensures) ∙ not-false (b .well-formed .result) (c .before .before .before .before .before .before .before .if1 .left)) _ _ _ (c .before .before .before .before .happen .ensures)
+    well (a .shape) (stepOf (a .event) (a .intid)) (lent (now (a .dist)) (now (a .redist)) (now (a .dist-presence)) (now (a .redist-presence))) (sym (b .well-formed .ensures) ∙ not-false (b .well-formed .result) (c .before .before .before .before .before .before .before .if1 .left)) _ _ _ (c .before .before .before .before .happen .ensures)
 
-pub wire-spec : {M : Type 1} → statement M
-wire-spec =
+pub judged-spec : {M : Type 1} → statement M
+judged-spec =
     tie.close
     (tie.spec
     well-formed-requires
