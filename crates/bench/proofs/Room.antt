@@ -7,12 +7,13 @@ use native.Mathlib.Omega.{arith}
 use lib.Dec.{eqb, leb}
 use lib.ListN.{length, length-append}
 use borrow.Author.Tests.{le-leb}
-use Rattle.bench.specs.declared.Ended.the-variants.{Said}
+use Rattle.ended.specs.declared.Ended.the-variants.{Said}
 use Rattle.script.specs.Replay.{replayed}
 use Rattle.script.specs.Stream.{Live, Fed, byteRead, fed, startLive, closed, goOn, hasRoom, within, quiet}
 use Rattle.script.proofs.Prefixes.{closed-quiet}
 use Rattle.script.proofs.Lines.{streamed}
-use Rattle.bench.specs.Whole.{pick, unless, enough, taken, wholeOf, wholeText}
+use Rattle.ended.specs.Ended.{pick, unless}
+use Rattle.bench.specs.Whole.{enough, taken, wholeOf, wholeText}
 
 -- what was written up to here is no longer than what is written in the end
 said-short : (l : Live) (bs : List ℕ) → length (l .run .said) ≤ length (closed (fed l bs))

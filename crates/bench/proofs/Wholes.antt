@@ -10,32 +10,19 @@ use lib.ListN.{length, take, drop, take-append-drop, length-take, length-drop, d
 use borrow.Author.Tests.{le-leb, lt-leb, eq-eqb, ne-eqb}
 use Rattle.meaning.specs.Layout.{Tables, lent}
 use Rattle.text.specs.Sheet.{Put}
-use Rattle.bench.specs.declared.Ended.{Ended}
-use Rattle.bench.specs.declared.Ended.the-variants.{Said, Full}
+use Rattle.ended.specs.declared.Ended.{Ended}
+use Rattle.ended.specs.declared.Ended.the-variants.{Said, Full}
 use Rattle.script.specs.Replay.{startTables, startProgress, start, ending, finished, replayed}
 use Rattle.script.specs.Stream.{Live, Fed, fed, closed, startLive, within}
-use Rattle.script.proofs.Pieces.{within-fed, within-goes}
+use Rattle.script.proofs.Pieces.{within-fed}
 use Rattle.script.proofs.Lines.{streamed}
 use Rattle.held.specs.declared.State.{State}
 use Rattle.held.specs.Held.{startState}
 use Rattle.stream.specs.Living.{liveOf, Taken}
-use Rattle.bench.specs.Whole.{pick, unless, over, endedOf, endedText, enough, taken, wholeOf, wholeText}
+use Rattle.ended.specs.Ended.{pick, unless, over}
+use Rattle.bench.specs.Whole.{enough, taken, wholeOf, wholeText}
 use Rattle.lines.proofs.Reaching.{put-fits}
 use Rattle.stream.proofs.Living.{further}
-
-module _ {b : List ℕ} {t : List ℕ} {b′ : List ℕ} {e : ℕ} where
-  pub put-over : Put b 0 t b′ e → b′ ≡ over t b
-  put-over p =
-      sym (take-append-drop e b′)
-      ∙ (ap (λ (x : List ℕ). x ++ drop e b′) (p .is) ∙ (ap (λ (x : List ℕ). t ++ x) (p .kept) ∙ ap (λ (n : ℕ). t ++ drop n b) (p .end ∙ zero-add (length t))))
-
-  pub ended-said : 32 ≤ length b → Put b 0 t b′ e → (Said e ≡ endedOf (length b) t) × (b′ ≡ over (endedText (length b) t) b)
-  unfolding endedOf endedText
-  ended-said h p = (rw (le-leb 32 (length b) h) (ap Said (p .end ∙ zero-add (length t))), rw (le-leb 32 (length b) h) (put-over p))
-
-pub ended-full : (b t : List ℕ) → length b < 32 → (Full ≡ endedOf (length b) t) × (b ≡ over (endedText (length b) t) b)
-unfolding endedOf endedText
-ended-full b t h = (rw (lt-leb 32 (length b) h), rw (lt-leb 32 (length b) h))
 
 -- a buffer by what stands before its end and after it
 written : (b : List ℕ) (e : ℕ) (t : List ℕ) (b′ : List ℕ) → take e b′ ≡ t → drop e b′ ≡ drop e b → e ≤ length b′ → (e ≡ length t) × (b′ ≡ over t b)
@@ -146,18 +133,3 @@ module _ {s : State} {d r dp rp : List ℕ} (line : List ℕ) (hs : s ≡ startS
       → Taken (taken (length b) input) s′ t line′ input used b b′ e
   from-start input b s′ t line′ used b′ e k =
       subst (λ (l : Live). Taken (within (length b) l input) s′ t line′ input used b b′ e) (start-live s d r dp rp line hs hd hr hdp hrp hl) k
-
--- with 128 bytes of room, some of a piece is taken
-pub taken-goes : (s : State) (t : Tables) (line piece b : List ℕ) {s′ : State} {t′ : Tables} {line′ : List ℕ} {used : ℕ} {b′ : List ℕ} {e : ℕ}
-    → Taken (within (length b) (liveOf s t line [] 0) piece) s′ t′ line′ piece used b b′ e → 128 ≤ length b → 0 < length piece → 0 < used
-taken-goes s t line piece b {used = used} got room some =
-    omega (arith, sym (length-drop used piece) ∙ ap length (got .left), within-goes (length b) (liveOf s t line [] 0) piece room some)
-
--- what is said lies within the buffer
-pub said-fits : (n : ℕ) (b t b′ : List ℕ) → Said n ≡ endedOf (length b) t → b′ ≡ over (endedText (length b) t) b → n ≤ length b′
-unfolding endedOf endedText
-said-fits n b t b′ h k = by (leb 32 (length b)) h k
-  where
-    by : (x : Bool) → Said n ≡ pick x (Said (length t)) Full → b′ ≡ over (unless x t []) b → n ≤ length b′
-    by true p q = let same : n ≡ length t = cc in omega (arith, same, simp length-append at (ap length q))
-    by false p q = absurd (let z : _≡_ {A = ℕ} 0 1 = cc in omega arith)

@@ -1,32 +1,14 @@
 -- A whole replay into one lent buffer.
-use mathlib.Core.Bool.{Bool, true, false, _&&_}
-use mathlib.Core.List.{List, [], _∷_, _++_}
+use mathlib.Core.Bool.{Bool, _&&_}
+use mathlib.Core.List.{List}
 use Prim.Native.Nat.{ℕ, _+_}
 use lib.Dec.{eqb, leb}
-use lib.ListN.{length, drop}
+use lib.ListN.{length}
 use Rattle.script.specs.Replay.{replayed}
-use Rattle.script.specs.Stream.{Fed, startLive, within, closed}
-use Rattle.bench.specs.declared.Ended.{Ended}
-use Rattle.bench.specs.declared.Ended.the-variants.{Said, Full}
-
-abbrev pub pick : Bool → Ended → Ended → Ended
-pick true x y = x
-pick false x y = y
-
-abbrev pub unless : Bool → List ℕ → List ℕ → List ℕ
-unless true t u = t
-unless false t u = u
-
--- a buffer whose first bytes are a text, the others being as they were
-abbrev pub over : List ℕ → List ℕ → List ℕ
-over t buffer = t ++ drop (length t) buffer
-
--- the last text wants 32 bytes of a buffer, or nothing is written
-unfoldable pub endedOf : ℕ → List ℕ → Ended
-endedOf size t = pick (leb 32 size) (Said (length t)) Full
-
-unfoldable pub endedText : ℕ → List ℕ → List ℕ
-endedText size t = unless (leb 32 size) t []
+use Rattle.script.specs.Stream.{Fed, startLive, within}
+use Rattle.ended.specs.declared.Ended.{Ended}
+use Rattle.ended.specs.declared.Ended.the-variants.{Said, Full}
+use Rattle.ended.specs.Ended.{pick, unless}
 
 -- all of the input was taken, and 32 bytes of the buffer are free
 unfoldable pub enough : ℕ → Fed → Bool

@@ -1,8 +1,46 @@
 // The bench replay: bytes in, bytes out. What it means stands in the crate script; pieces of an input are taken by the crate stream.
-pub mod whole;
+ghost use mathlib.Core.Path.{_≡_};
+ghost use lib.ListN.{length};
+ghost use Rattle.ended.specs.Ended.{over};
+ghost use Rattle.bench.specs.Whole.{wholeOf, wholeText};
+use blank::dist_present;
+use blank::dist_records;
+use blank::redist_present;
+use blank::redist_records;
+use ended::Ended;
+use held::first;
+use held::start;
+use steps::answer::put_ending;
+use stream::piece::feed;
 
-// How a replay ends: the first bytes of the output are all that is to be written, or the output had no room for it.
-pub enum Ended {
-    Said(usize),
-    Full,
+// A whole replay: the input's output, at the start of `out`.
+pub fn replay(input: &[u8], out: &mut [u8]) -> Ended
+    ensures { λ r. ⌜ ((r ≡ wholeOf (length (now (out .entry))) (now (input .entry))) × (now (out .exit) ≡ over (wholeText (length (now (out .entry))) (now (input .entry))) (now (out .entry)))) ⌝ }
+{
+    let mut dist = dist_records();
+    let mut redist = redist_records();
+    let present = dist_present();
+    let redist_presence = redist_present();
+    let mut line = [0u8; 18];
+    let fed = feed(
+        &mut dist,
+        &mut redist,
+        &present,
+        &redist_presence,
+        &mut line,
+        out,
+        start(),
+        input,
+    );
+    let end = fed.end;
+    if fed.used < input.len() {
+        return Ended::Full;
+    }
+    if out.len() - end < 32 {
+        return Ended::Full;
+    }
+    let state = fed.state;
+    let p = state.at;
+    let len = state.len;
+    Ended::Said(put_ending(out, end, p, first(&line, len)))
 }

@@ -1,15 +1,15 @@
-// The bench replay as a program: standard input to standard output, in constant memory. What it writes is the crate bench's, which
-// is proved. This reads and writes: no contract can say what a system call moved.
+// The bench replay as a program: standard input to standard output, in constant memory. What it writes comes of the crates stream and
+// ended, and is proved. This reads and writes: no contract can say what a system call moved.
 // A failed read or write ends it at once, with a word on standard error and without bad= or end=, so that an output that was cut
 // short is not taken for a whole one.
 ghost use Prim.Native.Nat.{_≤_};
 ghost use lib.ListN.{length};
-use bench::Ended;
-use bench::whole::finish;
 use blank::dist_present;
 use blank::dist_records;
 use blank::redist_present;
 use blank::redist_records;
+use ended::Ended;
+use ended::finish;
 use held::State;
 use held::start;
 use libc::STDERR_FILENO;

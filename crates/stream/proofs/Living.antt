@@ -6,12 +6,13 @@ use Prim.Native.Nat.{ℕ, suc, _+_, _-_, _<_, _≤_, min}
 use native.Mathlib.Numerals.{add-one}
 use native.Mathlib.Omega.{arith}
 use lib.Dec.{eqb, leb, ltb}
-use lib.ListN.{length, take, drop, getD, set, length-take, drop-of-length-le}
+use lib.ListN.{length, take, drop, getD, set, length-take, length-drop, drop-of-length-le}
 use lib.Seq.{take-suc-set, take-all, drop-cons, drop-drop}
 use borrow.Author.Tests.{lt-ltb, le-ltb, le-leb, lt-leb, ne-eqb}
 use Rattle.meaning.specs.Layout.{Tables}
 use Rattle.script.specs.declared.Progress.{Progress}
 use Rattle.script.specs.Run.{Run, lineRead}
+use Rattle.script.proofs.Pieces.{within-goes}
 use Rattle.script.specs.Stream.{Live, when, lengthened, pushed, byteRead, Fed, goOn, hasRoom, within}
 use Rattle.held.specs.declared.State.{State}
 use Rattle.lines.specs.Reached.{runOf, Reached}
@@ -128,3 +129,9 @@ module _ (f : Fed) (size : ℕ) (s : State) (t : Tables) (line : List ℕ) (b₀
       ∙ (stops (hasRoom size (liveOf s t line b e)) _ _ (lt-leb (length (take e b) + 128) size (omega (arith, written, now .same)))
       ∙ ap (λ (x : List ℕ). record { live = liveOf s t line b e; left = x }) (sym (next-byte h))))
       refl refl
+
+-- with 128 bytes of room, some of a piece is taken
+pub taken-goes : (s : State) (t : Tables) (line piece b : List ℕ) {s′ : State} {t′ : Tables} {line′ : List ℕ} {used : ℕ} {b′ : List ℕ} {e : ℕ}
+    → Taken (within (length b) (liveOf s t line [] 0) piece) s′ t′ line′ piece used b b′ e → 128 ≤ length b → 0 < length piece → 0 < used
+taken-goes s t line piece b {used = used} got room some =
+    omega (arith, sym (length-drop used piece) ∙ ap length (got .left), within-goes (length b) (liveOf s t line [] 0) piece room some)

@@ -3,7 +3,7 @@ use native.Mathlib.Omega.{arith}
 use lib.ListN.{take, length-take}
 use denote.Ref.{now}
 use Rattle.script.specs.Replay.{ending}
-use Rattle.bench.proofs.Wholes.{said-fits}
+use Rattle.ended.proofs.Ending.{said-fits}
 use borrow.Author.Needs.{needs}
 use Rattle.replay.proofs.close.Statement.{statement}
 use Rattle.replay.proofs.close.Tie as tie

@@ -6,8 +6,8 @@ use lib.ListN.{replicate}
 use denote.Ref.{now}
 use Rattle.bench.proofs.Wholes.{from-start, whole-full, whole-said, not-all, no-room}
 use borrow.Author.Needs.{needs}
-use Rattle.bench.proofs.whole.replay.Statement.{statement}
-use Rattle.bench.proofs.whole.replay.Tie as tie
+use Rattle.bench.proofs.replay.Statement.{statement}
+use Rattle.bench.proofs.replay.Tie as tie
 
 dist-records-requires : tie.Need-dist-records-requires
 dist-records-requires c κs = search needs

@@ -1,7 +1,7 @@
-use Rattle.bench.proofs.Wholes.{ended-said, ended-full}
+use Rattle.ended.proofs.Ending.{ended-said, ended-full}
 use borrow.Author.Needs.{needs}
-use Rattle.bench.proofs.whole.finish.Statement.{statement}
-use Rattle.bench.proofs.whole.finish.Tie as tie
+use Rattle.ended.proofs.finish.Statement.{statement}
+use Rattle.ended.proofs.finish.Tie as tie
 
 returns : tie.Need-returns
 returns c = ended-full _ _ (c .if1 .taken)
