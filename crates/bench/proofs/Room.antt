@@ -1,7 +1,7 @@
 -- With room for the output and 128 bytes more, a whole replay is never answered Full: its output is written.
-use mathlib.Core.Path.{_≡_, refl, sym, ap, _∙_}
-use mathlib.Core.Bool.{Bool, true, false, _&&_}
-use mathlib.Core.List.{List, [], _∷_, _++_}
+use mathlib.Core.Path.{_≡_, refl, ap, _∙_}
+use mathlib.Core.Bool.{Bool, true, _&&_}
+use mathlib.Core.List.{List, [], _∷_}
 use Prim.Native.Nat.{ℕ, _+_, _≤_}
 use native.Mathlib.Omega.{arith}
 use lib.Dec.{eqb, leb}
@@ -9,10 +9,9 @@ use lib.ListN.{length, length-append}
 use borrow.Author.Tests.{le-leb}
 use Rattle.ended.specs.declared.Ended.the-variants.{Said}
 use Rattle.script.specs.Replay.{replayed}
-use Rattle.script.specs.Stream.{Live, Fed, byteRead, fed, startLive, closed, goOn, hasRoom, within, quiet}
+use Rattle.script.specs.Stream.{Live, Fed, byteRead, fed, startLive, closed, goOn, within, quiet}
 use Rattle.script.proofs.Prefixes.{closed-quiet}
 use Rattle.script.proofs.Lines.{streamed}
-use Rattle.ended.specs.Ended.{pick, unless}
 use Rattle.bench.specs.Whole.{enough, taken, wholeOf, wholeText}
 
 -- what was written up to here is no longer than what is written in the end

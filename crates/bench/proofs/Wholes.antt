@@ -1,19 +1,18 @@
 -- A buffer written from its start.
 use mathlib.Core.Path.{_≡_, refl, sym, ap, subst, _∙_}
 use mathlib.Core.Bool.{Bool, true, false, _&&_, true≢false}
-use mathlib.Core.List.{List, [], _∷_, _++_}
+use mathlib.Core.List.{List, [], _++_}
 use Prim.Native.Nat.{ℕ, _+_, _-_, _<_, _≤_}
-use native.Mathlib.Nat.{zero-add}
 use native.Mathlib.Omega.{arith}
 use lib.Dec.{eqb, leb}
-use lib.ListN.{length, take, drop, take-append-drop, length-take, length-drop, drop-of-length-le, length-append, replicate}
+use lib.ListN.{length, take, drop, take-append-drop, length-take, length-drop, drop-of-length-le, replicate}
 use borrow.Author.Tests.{le-leb, lt-leb, eq-eqb, ne-eqb}
 use Rattle.meaning.specs.Layout.{Tables, lent}
 use Rattle.text.specs.Sheet.{Put}
 use Rattle.ended.specs.declared.Ended.{Ended}
 use Rattle.ended.specs.declared.Ended.the-variants.{Said, Full}
 use Rattle.script.specs.Replay.{startTables, startProgress, start, ending, finished, replayed}
-use Rattle.script.specs.Stream.{Live, Fed, fed, closed, startLive, within}
+use Rattle.script.specs.Stream.{Live, fed, closed, startLive, within}
 use Rattle.script.proofs.Pieces.{within-fed}
 use Rattle.script.proofs.Lines.{streamed}
 use Rattle.held.specs.declared.State.{State}

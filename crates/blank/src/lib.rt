@@ -1,6 +1,6 @@
 // The tables of a replay's start: all interrupts present, records 0.
 ghost use mathlib.Core.Path.{_≡_};
-ghost use lib.ListN.{length, replicate};
+ghost use lib.ListN.{replicate};
 
 pub fn dist_records() -> [u8; 2012]
     ensures { λ r. ⌜ r ≡ replicate 2012 0 ⌝ }

@@ -1,9 +1,9 @@
 -- From what the engine promises of a step to the one equation of a public function.
-use mathlib.Core.Path.{_≡_, refl, sym, ap, ap₂, _∙_, subst}
+use mathlib.Core.Path.{_≡_, refl, sym, ap, _∙_}
 use mathlib.Core.Bool.{Bool, true, false}
 use mathlib.Core.List.{List}
 use Prim.Native.Nat.{ℕ}
-use lib.ListN.{length, getD}
+use lib.ListN.{getD}
 use Rattle.lists.specs.Map.{mapFrom}
 use Rattle.lists.proofs.Maps.{mapFrom-cong}
 use Rattle.types.specs.declared.Frame.{Frame}

@@ -1,10 +1,8 @@
 -- What well-formed tables are known by.
 use mathlib.Core.Path.{_≡_}
-use mathlib.Core.Bool.{Bool, true, _&&_}
-use mathlib.Core.List.{List}
-use Prim.Native.Nat.{ℕ, _<_}
+use mathlib.Core.Bool.{true, _&&_}
 use lib.Dec.{eqb}
-use lib.ListN.{length, getD}
+use lib.ListN.{length}
 use borrow.Author.Tests.{eqb-true}
 use Rattle.lists.proofs.Bools.{and-left, and-right}
 use Rattle.types.specs.declared.Frame.{Frame}

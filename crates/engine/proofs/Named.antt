@@ -1,14 +1,14 @@
 -- Steps that name one interrupt: messages and events. What they do is at its slot, and only where it is implemented.
-use mathlib.Core.Path.{_≡_, refl, sym, ap, ap₂, _∙_, subst}
+use mathlib.Core.Path.{_≡_, refl, sym, ap, _∙_, subst}
 use mathlib.Core.Bool.{Bool, true, false, not, _&&_, and-false}
 use mathlib.Core.List.{List}
-use Prim.Native.Nat.{ℕ, _%_, _<_}
+use Prim.Native.Nat.{ℕ, _%_}
 use native.Mathlib.Decide.{ℕ-discrete}
 use native.Mathlib.Omega.{arith}
 use lib.Dec.{eqb}
 use lib.ListN.{length, getD, set}
 use borrow.Author.Tests.{eq-eqb}
-use Rattle.lists.proofs.Bools.{and-left, and-right, both, clash}
+use Rattle.lists.proofs.Bools.{both, clash}
 use Rattle.lists.proofs.Maps.{mapFrom-same}
 use Rattle.types.specs.declared.Frame.{Frame}
 use Rattle.types.specs.declared.Frame.the-variants.{Dist, Redist}
@@ -22,14 +22,14 @@ use Rattle.types.specs.declared.Answer.{Answer}
 use Rattle.types.specs.declared.Answer.the-variants.{Done, Refused}
 use Rattle.meaning.specs.Cell.{Cell, decode, encode, sgi, pending}
 use Rattle.meaning.specs.Layout.{Tables, recordsOf, wellFormed, inRange, orElse, homeOf, inDist, spi, presentAt, implemented, intidOf, cellOf}
-use Rattle.meaning.specs.Rule.{Step, gated, sees, maySend, addresses, delivered, messageWritten, first-of, isDone, wireAnswer, activateAnswer, deactivateAnswer, act}
+use Rattle.meaning.specs.Rule.{Step, gated, sees, addresses, delivered, messageWritten, first-of, isDone, wireAnswer, activateAnswer, deactivateAnswer, act}
 use Rattle.meaning.specs.Step.{answer, ruled, recordsAfter}
 use Rattle.meaning.specs.Sides.{isReset}
 use Rattle.meaning.proofs.Bytes.{encode-decode}
 use Rattle.meaning.proofs.Cells.{gated-true, gated-shut}
 use Rattle.meaning.proofs.Rules.{message-left, missing-left}
 use Rattle.meaning.proofs.Quiet.{message-quiet, event-quiet}
-use Rattle.homes.specs.Home.{presences, located}
+use Rattle.homes.specs.Home.{located}
 use Rattle.happening.specs.declared.Event.{Event}
 use Rattle.happening.specs.declared.Event.the-variants as event
 use Rattle.happening.specs.Event.{stepOf, answerTo, effectOf, happened, happenedAt}

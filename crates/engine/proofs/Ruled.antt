@@ -1,6 +1,5 @@
 -- A table after a rule: left as it was, changed at one slot, or (Words) in one part.
-use mathlib.Core.Path.{_≡_, refl, sym, ap, _∙_}
-use mathlib.Core.Bool.{Bool, true, false}
+use mathlib.Core.Path.{_≡_, sym, ap, _∙_}
 use mathlib.Core.List.{List}
 use Prim.Native.Nat.{ℕ, _<_}
 use native.Mathlib.Omega.{arith}
@@ -11,7 +10,7 @@ use Rattle.types.specs.declared.Frame.{Frame}
 use Rattle.types.specs.declared.Frame.the-variants.{Dist, Redist}
 use Rattle.types.specs.declared.Shape.{Shape}
 use Rattle.types.specs.declared.Home.{Home}
-use Rattle.types.specs.declared.Home.the-variants.{Slot, Nowhere}
+use Rattle.types.specs.declared.Home.the-variants.{Slot}
 use Rattle.meaning.specs.Cell.{Cell, decode, encode}
 use Rattle.meaning.specs.Layout.{Tables, recordsOf, homeOf, intidOf, byteAt, implemented, cellOf}
 use Rattle.meaning.specs.Step.{ruled}

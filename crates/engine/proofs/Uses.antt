@@ -2,9 +2,9 @@
 use mathlib.Core.Path.{_≡_, refl, sym, ap, _∙_, subst}
 use mathlib.Core.Bool.{Bool, true, cond, _&&_}
 use mathlib.Core.List.{List, [], _++_}
-use Prim.Native.Nat.{ℕ, _+_, _*_, _-_, _/_, _%_, _^_, _≤_, _<_}
+use Prim.Native.Nat.{ℕ, _+_, _-_, _/_, _%_, _^_, _≤_}
 use native.Mathlib.Omega.{arith}
-use lib.ListN.{length, getD, take, drop, length-take, length-drop}
+use lib.ListN.{length, getD, take, drop, length-take}
 use Rattle.lists.specs.Word.{bitAt}
 use Rattle.types.specs.declared.Frame.{Frame}
 use Rattle.types.specs.declared.Frame.the-variants.{Dist, Redist}
@@ -15,10 +15,9 @@ use Rattle.types.specs.declared.Place.{Place}
 use Rattle.types.specs.declared.Home.{Home}
 use Rattle.types.specs.declared.Home.the-variants.{Slot, Nowhere}
 use Rattle.meaning.specs.Layout.{Tables, lent, recordsOf, presenceOf, wellFormed, inRange, homeOf, presentAt, implemented, cellOf}
-use Rattle.meaning.specs.Registers.{perWord, digitBits, first, count}
+use Rattle.meaning.specs.Registers.{perWord, first, count}
 use Rattle.meaning.specs.Rule.{wordWritten}
 use Rattle.meaning.specs.Step.{ruled, wordRead}
-use Rattle.meaning.proofs.Homes.{slots}
 use Rattle.words.specs.declared.Word.{Word}
 use Rattle.words.specs.Part.{Fitting, gathered, stored}
 use Rattle.homes.specs.Home.{presences}

@@ -1,31 +1,29 @@
 -- A register word on the tables: what a write leaves is the rule's, and what a read gathers is what the rule shows.
-use mathlib.Core.Path.{_≡_, refl, sym, ap, ap₂, _∙_}
+use mathlib.Core.Path.{_≡_, sym, ap, ap₂, _∙_}
 use mathlib.Core.Bool.{Bool, true, false, _&&_}
 use mathlib.Core.List.{List, _++_}
-use mathlib.Core.Logic.{_⊎_, inl, inr, ⊎-elim}
+use mathlib.Core.Logic.{_⊎_, inl, inr}
 use Prim.Native.Nat.{ℕ, _+_, _-_, _%_, _≤_, _<_}
 use native.Mathlib.Omega.{arith}
-use native.Mathlib.Decide.{decLt}
 use lib.ListN.{length, getD, take, drop, length-take, length-drop}
 use lib.Seq.{getD-take, getD-drop}
 use Rattle.lists.specs.Map.{mapFrom}
-use Rattle.lists.specs.Word.{bitAt, digitAt, row}
+use Rattle.lists.specs.Word.{digitAt, row}
 use Rattle.lists.proofs.Maps.{mapFrom-part}
 use Rattle.lists.proofs.Rows.{row-same, row-cut}
-use Rattle.types.specs.declared.Frame.{Frame}
 use Rattle.types.specs.declared.Shape.{Shape}
 use Rattle.types.specs.declared.Side.{Side}
 use Rattle.types.specs.declared.Family.{Family}
 use Rattle.types.specs.declared.Place.{Place}
-use Rattle.meaning.specs.Cell.{Cell, decode, encode}
-use Rattle.meaning.specs.Layout.{Tables, recordsOf, wellFormed, between, intidOf, homeOf, inRange, presentAt, implemented, cellOf}
+use Rattle.meaning.specs.Cell.{decode, encode}
+use Rattle.meaning.specs.Layout.{Tables, recordsOf, wellFormed, between, intidOf, homeOf, presentAt, implemented, cellOf}
 use Rattle.meaning.specs.Registers.{digitBits, first, count, names}
 use Rattle.meaning.specs.Rule.{gated, touched, visible, wordWritten}
 use Rattle.meaning.specs.Step.{ruled, wordRead}
 use Rattle.meaning.proofs.Bytes.{encode-decode}
 use Rattle.meaning.proofs.Cells.{gated-true, gated-false}
 use Rattle.meaning.proofs.Rules.{missing-unseen}
-use Rattle.meaning.proofs.Homes.{slots, slot-home, between-in, between-below, between-above}
+use Rattle.meaning.proofs.Homes.{slot-home, between-in, between-below, between-above}
 use Rattle.words.specs.declared.Word.{Word}
 use Rattle.words.specs.Part.{shownAt, gathered, storedAt, stored}
 use Rattle.spans.specs.Span.{valid, frameOf, startOf, endOf, maskOf}

@@ -1,12 +1,11 @@
 -- What `located` comes to, by what is known of the home, the range and the presence bit.
-use mathlib.Core.Path.{_≡_, refl, sym, ap, _∙_}
+use mathlib.Core.Path.{_≡_, refl, ap, _∙_}
 use mathlib.Core.Bool.{Bool, true, false, _&&_}
 use mathlib.Core.List.{List}
 use Prim.Native.Nat.{ℕ, _%_}
 use lib.ListN.{getD}
 use Rattle.lists.specs.Word.{bitAt}
 use Rattle.types.specs.declared.Frame.{Frame}
-use Rattle.types.specs.declared.Frame.the-variants.{Dist, Redist}
 use Rattle.types.specs.declared.Shape.{Shape}
 use Rattle.types.specs.declared.Home.{Home}
 use Rattle.types.specs.declared.Home.the-variants.{Slot, Nowhere}

@@ -1,18 +1,16 @@
 -- Which INTIDs a shape has, range by range, and so which are implemented, presence word by presence word.
-use mathlib.Core.Path.{_≡_, refl, sym, ap, ap₂, _∙_}
+use mathlib.Core.Path.{_≡_, refl, ap, ap₂, _∙_}
 use mathlib.Core.Bool.{Bool, true, false, _&&_, _||_}
-use mathlib.Core.List.{List}
-use Prim.Native.Nat.{ℕ, _+_, _*_, _-_, _/_, _%_, _≤_, _<_, min}
+use Prim.Native.Nat.{ℕ, _+_, _*_, _-_, _%_, _≤_, _<_, min}
 use native.Mathlib.Omega.{arith}
 use lib.Dec.{ltb, leb}
 use lib.ListN.{getD}
-use borrow.Author.Tests.{ltb-true, ltb-false, leb-true, leb-false, lt-ltb, le-ltb, le-leb, lt-leb}
+use borrow.Author.Tests.{ltb-true, ltb-false, leb-true, leb-false, lt-ltb, le-ltb, le-leb}
 use Rattle.lists.specs.Word.{bitAt}
 use Rattle.lists.proofs.Bools.{and-left, and-right}
 use Rattle.types.specs.declared.Shape.{Shape}
-use Rattle.types.specs.declared.Frame.the-variants.{Dist, Redist}
 use Rattle.types.specs.declared.Home.{Home}
-use Rattle.types.specs.declared.Home.the-variants.{Slot, Nowhere}
+use Rattle.types.specs.declared.Home.the-variants.{Nowhere}
 use Rattle.meaning.specs.Layout.{Tables, shapeFits, between, inRange, homeOf, presentAt, implemented}
 use Rattle.meaning.proofs.Homes.{between-in, between-below, between-above, home-low, home-spi, home-eppi, home-espi}
 

@@ -1,19 +1,18 @@
 -- Laws of the keys: their places are ten, and no good line has more than 17 bytes before its end.
-use mathlib.Core.Path.{_≡_, refl, sym, ap, _∙_}
+use mathlib.Core.Path.{_≡_, refl}
 use mathlib.Core.Bool.{Bool, true, false}
 use mathlib.Core.List.{List}
 use Prim.Native.Nat.{ℕ, _+_, _-_, _<_, _≤_}
 use native.Mathlib.Omega.{arith}
 use lib.ListN.{length, drop, length-drop}
-use Rattle.text.specs.declared.Number.{Number}
-use Rattle.text.specs.declared.Number.the-variants.{Is, Bad}
-use Rattle.text.specs.Text.{bytes, beginsWith, sameText}
-use Rattle.text.specs.Number.{choose, numberIn}
+use Rattle.text.specs.declared.Number.the-variants.{Bad}
+use Rattle.text.specs.Text.{bytes, beginsWith}
+use Rattle.text.specs.Number.{choose}
 use Rattle.text.proofs.Texts.{different}
 use Rattle.text.proofs.Numbers.{number-long}
 use Rattle.keys.specs.declared.Key.{Key}
 use Rattle.keys.specs.declared.Key.the-variants.{Lines, Espi, Eppi, Mbis, Op, Frame, Sec, Width, Offset, Value}
-use Rattle.keys.specs.Keys.{rank, atMost, numberAt, oneOf, fieldOf}
+use Rattle.keys.specs.Keys.{rank, numberAt, oneOf, fieldOf}
 
 pub rank-small : (k : Key) → rank k < 10
 rank-small Lines = omega arith

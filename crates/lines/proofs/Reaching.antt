@@ -1,16 +1,15 @@
 -- From what is written and kept to the replay that is reached.
 use mathlib.Core.Path.{_≡_, refl, sym, ap, subst, _∙_}
-use mathlib.Core.Bool.{Bool, true, false}
-use mathlib.Core.List.{List, [], _∷_, _++_, append-nil}
+use mathlib.Core.Bool.{true, false}
+use mathlib.Core.List.{List, _++_}
 use Prim.Native.Nat.{ℕ, _+_, _<_, _≤_, min}
 use native.Mathlib.Omega.{arith}
-use lib.ListN.{length, take, drop, length-append, length-take}
+use lib.ListN.{length, take, length-append, length-take}
 use Rattle.types.specs.declared.Answer.{Answer}
 use Rattle.meaning.specs.Layout.{Tables}
 use Rattle.meaning.specs.Rule.{access}
 use Rattle.meaning.specs.Step.{Outcome, stepped}
 use Rattle.text.specs.declared.Number.{Number}
-use Rattle.text.specs.declared.Number.the-variants.{Is, Bad}
 use Rattle.text.specs.Sheet.{Put}
 use Rattle.keys.specs.Keys.{rank, fieldOf}
 use Rattle.script.specs.declared.Progress.{Progress}

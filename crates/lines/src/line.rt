@@ -6,7 +6,7 @@ ghost use Rattle.meaning.specs.Rule.{access as by-access};
 ghost use Rattle.meaning.specs.Step.{stepped};
 ghost use Rattle.text.specs.Sheet.{Put};
 ghost use Rattle.meaning.specs.Layout.{lent};
-ghost use Rattle.script.specs.Run.{shapeOf, requestOf, badText, stopped, badLine, counted, completed, keeping, goodLine, lineRead};
+ghost use Rattle.script.specs.Run.{shapeOf, requestOf, badText, stopped, counted, completed, keeping, goodLine, lineRead};
 ghost use Rattle.lines.specs.Reached.{runOf, Reached};
 use crate::Told;
 use controller::access;

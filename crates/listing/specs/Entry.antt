@@ -1,5 +1,5 @@
 -- What the decoder makes of a map code. Proved to be `listed` at every word of the first 4 KiB, in both frames.
-use mathlib.Core.Bool.{Bool, true, false, cond}
+use mathlib.Core.Bool.{Bool, true, false}
 use Prim.Native.Nat.{ℕ, _-_, _/_}
 use lib.Dec.{eqb, ltb}
 use Rattle.types.specs.declared.Frame.the-variants.{Dist, Redist}

@@ -1,6 +1,6 @@
 // The listed registers: the place of the word at an offset of a frame, or refusal 5.
 ghost use mathlib.Core.Path.{_≡_};
-ghost use Prim.Native.Nat.{_+_, _*_, _-_, _/_, _%_, _<_, _≤_};
+ghost use Prim.Native.Nat.{_+_, _*_, _-_, _/_, _%_, _<_};
 ghost use Rattle.types.specs.declared.Frame.the-variants.{Dist};
 ghost use Rattle.types.specs.declared.Place.the-variants as place;
 ghost use Rattle.types.specs.declared.Refusal.the-variants as refusal;

@@ -1,6 +1,6 @@
 -- The auditors' register map: a code for what the word at 4·k of the Distributor frame is, or 0.
 use Prim.Native.Nat.{ℕ, _*_}
-use Rattle.types.specs.declared.Frame.the-variants.{Dist, Redist}
+use Rattle.types.specs.declared.Frame.the-variants.{Dist}
 use Rattle.types.specs.declared.Family.{Family}
 use Rattle.types.specs.declared.Family.the-variants.{Igroupr, Isenabler, Icenabler, Ispendr, Icpendr, Isactiver, Icactiver, Igrpmodr, Icfgr}
 use Rattle.types.specs.declared.Message.{Message}

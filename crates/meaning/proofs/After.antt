@@ -1,25 +1,23 @@
 -- The lent tables after a step are the rule at every interrupt: what holds of cells holds of the bytes.
-use mathlib.Core.Path.{_≡_, refl, sym, ap, ap₂, _∙_}
-use mathlib.Core.Bool.{Bool, true, false, cond, _&&_, and-false}
+use mathlib.Core.Path.{_≡_, refl, sym, ap, _∙_}
+use mathlib.Core.Bool.{Bool, true, false, _&&_, and-false}
 use mathlib.Core.List.{List}
-use Prim.Native.Nat.{ℕ, _%_, _<_}
-use native.Mathlib.Omega.{arith}
-use lib.Dec.{eqb, ltb, leb}
+use Prim.Native.Nat.{ℕ, _%_}
+use lib.Dec.{eqb}
 use lib.ListN.{length, getD}
 use borrow.Author.Tests.{eqb-true}
 use Rattle.lists.proofs.Bools.{and-left, and-right}
 use Rattle.lists.specs.Map.{mapFrom}
-use Rattle.lists.proofs.Maps.{length-mapFrom, at-mapFrom}
+use Rattle.lists.proofs.Maps.{at-mapFrom}
 use Rattle.types.specs.declared.Frame.{Frame}
 use Rattle.types.specs.declared.Frame.the-variants.{Dist, Redist}
 use Rattle.types.specs.declared.Shape.{Shape}
-use Rattle.meaning.specs.Cell.{Cell, decode, encode}
+use Rattle.meaning.specs.Cell.{decode, encode}
 use Rattle.types.specs.declared.Home.{Home}
 use Rattle.types.specs.declared.Home.the-variants.{Slot, Nowhere}
-use Rattle.meaning.specs.Layout.{Tables, recordsOf, presenceOf, lengthsFit, shapeFits, wellFormed, inRange, homeOf, intidOf, presentAt, byteAt, implemented, cellOf}
+use Rattle.meaning.specs.Layout.{Tables, recordsOf, lengthsFit, inRange, homeOf, intidOf, presentAt, byteAt, implemented, cellOf}
 use Rattle.meaning.specs.Rule.{Step, access, wire, activate, deactivate, reset, act}
 use Rattle.meaning.specs.Step.{ruled, recordsAfter, tablesAfter}
-use Rattle.meaning.specs.Sides.{isReset}
 use Rattle.meaning.proofs.Bytes.{decode-encode}
 use Rattle.meaning.proofs.Rules.{missing-left}
 use Rattle.meaning.proofs.Kept.{presence-kept}

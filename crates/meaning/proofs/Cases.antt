@@ -1,16 +1,15 @@
 -- K1 to K12 hold of the rule, for every interrupt: by computing at the interrupt that a step names, and by its quiet law elsewhere.
 use mathlib.Core.Path.{_≡_, refl, sym, ap, _∙_}
-use mathlib.Core.Bool.{Bool, true, false, cond, _&&_}
-use mathlib.Core.List.{List, [], _∷_}
-use Prim.Native.Nat.{ℕ, _+_, _-_, _%_, _≤_, _<_}
+use mathlib.Core.Bool.{Bool, true, false, cond}
+use mathlib.Core.List.{[], _∷_}
+use Prim.Native.Nat.{ℕ, _-_, _≤_, _<_}
 use native.Mathlib.Omega.{arith}
 use lib.Dec.{eqb}
-use borrow.Author.Tests.{eqb-true, eqb-false, ne-eqb}
+use borrow.Author.Tests.{eqb-true, eqb-false}
 use Rattle.lists.specs.Word.{row, digitAt}
 use Rattle.types.specs.declared.Frame.the-variants.{Dist, Redist}
 use Rattle.types.specs.declared.Side.{Side}
 use Rattle.types.specs.declared.Side.the-variants.{Secure, NonSecure}
-use Rattle.types.specs.declared.Family.{Family}
 use Rattle.types.specs.declared.Family.the-variants.{Ispendr, Icpendr, Icactiver}
 use Rattle.types.specs.declared.Message.the-variants as message
 use Rattle.types.specs.declared.Place.the-variants as place
@@ -18,8 +17,8 @@ use Rattle.meaning.specs.Cell.{Cell, get, put, decode, nonSecure, sgi, e
 use Rattle.meaning.specs.Layout.{between, inRange, homeOf, spi}
 use Rattle.meaning.specs.Registers.{inColumn, inMessages, listed, placeOf, writtenValue, first, res0, count, names}
 use Rattle.meaning.specs.Rule.{Step, wire, activate, sees, mayTouch, setting, clearing, update, shows, reaches, touched, visible, wordWritten, maySend, delivered, addresses, rises, messageSet, messageCleared, sent, messageWritten, written, wireAnswer, activateAnswer, wired, activated, act}
-use Rattle.meaning.specs.Step.{typer, wordRead, read, accessAnswer, answer}
-use Rattle.meaning.specs.Cases.{bench, Bytes, present, Named, _is_, naming, from, writes, reads, cases, K1, K2, K3, K4, K5, K6, K7, K8, K9, K10, K11, K12, Hold, RowsHold}
+use Rattle.meaning.specs.Step.{typer, wordRead, read, answer}
+use Rattle.meaning.specs.Cases.{bench, Bytes, present, _is_, naming, from, writes, cases, K1, K2, K10, K11, K12, Hold}
 use Rattle.meaning.proofs.Cells.{gated-keeps}
 use Rattle.meaning.proofs.Rules.{missing-touched}
 use Rattle.meaning.proofs.Homes.{between-low, between-high, between-above, between-below}

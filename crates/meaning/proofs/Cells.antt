@@ -1,11 +1,11 @@
 -- Laws of one cell: a bit that is put, the byte of a record, and a gate.
 use mathlib.Core.Path.{_≡_, refl, ap}
-use mathlib.Core.Bool.{Bool, true, false, not, _&&_, _||_}
+use mathlib.Core.Bool.{Bool, true, false, not}
 use Prim.Native.Nat.{ℕ}
 use lib.Dec.{eqb}
 use Rattle.types.specs.declared.Bit.{Bit}
 use Rattle.types.specs.declared.Bit.the-variants.{Enabled, Latch, Wire, MessageLevel, Active, Edge, Group, Modifier}
-use Rattle.meaning.specs.Cell.{Cell, get, put, decode, encode, nonSecure}
+use Rattle.meaning.specs.Cell.{Cell, get, put}
 use Rattle.meaning.specs.Rule.{gated, setting, clearing}
 
 -- what was put is what is got

@@ -1,11 +1,11 @@
 -- Document 01's "Effects", sentence by sentence, as laws of the rule. Where Rule.antt were wrong, one of these would fail.
 use mathlib.Core.Path.{_≡_, refl, sym, ap, _∙_, subst⁻¹}
 use mathlib.Core.Bool.{Bool, true, false, cond, not, _&&_, _||_, Bool·beq}
-use Prim.Native.Nat.{ℕ, _*_}
+use Prim.Native.Nat.{ℕ}
 use lib.Dec.{eqb, leb}
 use Rattle.lists.specs.Word.{digit}
 use Rattle.lists.proofs.Bools.{clash}
-use Rattle.types.specs.declared.Bit.the-variants.{Enabled, Latch, Wire, MessageLevel, Active, Edge, Group, Modifier}
+use Rattle.types.specs.declared.Bit.the-variants.{Latch, Wire, MessageLevel, Active}
 use Rattle.types.specs.declared.Side.the-variants.{Secure, NonSecure}
 use Rattle.types.specs.declared.Shape.{Shape}
 use Rattle.types.specs.declared.Family.{Family}

@@ -1,9 +1,9 @@
 -- What every step keeps of an interrupt: presence always, and its side unless the step regroups.
 -- Both are one fact over a view of the cell that does not look at the bits that the step writes.
-use mathlib.Core.Path.{_≡_, refl, sym, _∙_, ap, ap₂}
-use mathlib.Core.Bool.{Bool, true, false, cond, not, _&&_, _||_, Bool·beq}
-use Prim.Native.Nat.{ℕ, _-_, _%_}
-use lib.Dec.{eqb, leb}
+use mathlib.Core.Path.{_≡_, refl, _∙_, ap, ap₂}
+use mathlib.Core.Bool.{Bool, true, false, not, _&&_, _||_, Bool·beq}
+use Prim.Native.Nat.{ℕ, _-_}
+use lib.Dec.{eqb}
 use borrow.Author.Tests.{not-true}
 use Rattle.lists.specs.Word.{digitAt}
 use Rattle.lists.proofs.Bools.{and-left, and-right, both, clash}
@@ -22,8 +22,7 @@ use Rattle.types.specs.declared.Decoded.{Decoded}
 use Rattle.types.specs.declared.Decoded.the-variants as decoded
 use Rattle.types.specs.declared.Bit.{Bit}
 use Rattle.types.specs.declared.Bit.the-variants.{Enabled, Latch, Wire, MessageLevel, Active, Edge, Group, Modifier}
-use Rattle.meaning.specs.Cell.{Cell, get, put, decode, nonSecure, sgi, edgeOf, pending}
-use Rattle.meaning.specs.Layout.{spi}
+use Rattle.meaning.specs.Cell.{Cell, get, put, decode, nonSecure, edgeOf, pending}
 use Rattle.meaning.specs.Registers.{digitBits, placeOf, writtenValue, first, names}
 use Rattle.meaning.specs.Rule.{Step, access, wire, activate, deactivate, reset, gated, sees, grouping, mayTouch, setting, clearing, retriggered, otherTrigger, fixedField, configured, update, reaches, touched, wordWritten, sets, maySend, addresses, delivered, messageSet, messageCleared, sent, messageWritten, written, accessed, wireAnswer, activateAnswer, deactivateAnswer, isDone, wired, activated, deactivated, act}
 use Rattle.meaning.specs.Sides.{owned, secure, writes, groupingAt, regroups}

@@ -6,10 +6,10 @@
 --   secure-refused    and is refused 7 by it
 --   presence-kept     no step implements an interrupt, or takes one away
 --   side-kept         a step that does not regroup leaves an interrupt on its side
-use mathlib.Core.Path.{_≡_, refl, sym, _∙_, ap, ap₂}
-use mathlib.Core.Bool.{Bool, true, false, cond, not, _&&_, _||_, Bool·beq, and-true}
-use Prim.Native.Nat.{ℕ, _-_, _%_}
-use lib.Dec.{eqb, leb}
+use mathlib.Core.Path.{_≡_, refl, _∙_, ap}
+use mathlib.Core.Bool.{Bool, true, false, cond, not, _&&_, and-true}
+use Prim.Native.Nat.{ℕ, _-_}
+use lib.Dec.{eqb}
 use Rattle.lists.specs.Word.{digitAt}
 use Rattle.lists.proofs.Bools.{and-left, and-right, both, clash}
 use Rattle.types.specs.declared.Side.{Side}
@@ -19,7 +19,6 @@ use Rattle.types.specs.declared.Way.{Way}
 use Rattle.types.specs.declared.Way.the-variants.{Read, Write}
 use Rattle.types.specs.declared.Access.{Access}
 use Rattle.types.specs.declared.Family.{Family}
-use Rattle.types.specs.declared.Family.the-variants.{Igroupr, Isenabler, Icenabler, Ispendr, Icpendr, Isactiver, Icactiver, Igrpmodr, Icfgr}
 use Rattle.types.specs.declared.Message as message
 use Rattle.types.specs.declared.Place.{Place}
 use Rattle.types.specs.declared.Place.the-variants as place
@@ -29,12 +28,11 @@ use Rattle.types.specs.declared.Decoded.the-variants as decoded
 use Rattle.types.specs.declared.Answer.{Answer}
 use Rattle.types.specs.declared.Answer.the-variants.{Done, Refused}
 use Rattle.types.specs.declared.Bit.{Bit}
-use Rattle.types.specs.declared.Bit.the-variants.{Enabled, Latch, Wire, MessageLevel, Active, Edge, Group, Modifier}
-use Rattle.meaning.specs.Cell.{Cell, get, put, decode, nonSecure, sgi, edgeOf, pending}
-use Rattle.meaning.specs.Layout.{spi}
+use Rattle.types.specs.declared.Bit.the-variants.{Wire}
+use Rattle.meaning.specs.Cell.{Cell, decode, nonSecure, sgi, pending}
 use Rattle.meaning.specs.Registers.{digitBits, placeOf, writtenValue, first, names}
-use Rattle.meaning.specs.Rule.{Step, access, wire, activate, deactivate, reset, gated, sees, grouping, mayTouch, setting, clearing, retriggered, update, shows, reaches, touched, visible, wordWritten, secureOnly, maySend, sent, addresses, delivered, messageWritten, written, accessed, wireAnswer, activateAnswer, deactivateAnswer, isDone, first-of, wired, activated, deactivated, act}
-use Rattle.meaning.specs.Sides.{owned, sideOf, permitted, isReset, regroups}
+use Rattle.meaning.specs.Rule.{Step, access, wire, activate, deactivate, reset, gated, sees, grouping, mayTouch, update, shows, reaches, touched, visible, wordWritten, secureOnly, maySend, sent, addresses, delivered, messageWritten, written, accessed, wireAnswer, activateAnswer, deactivateAnswer, isDone, first-of, wired, activated, deactivated, act}
+use Rattle.meaning.specs.Sides.{owned, sideOf, permitted, isReset}
 use Rattle.meaning.proofs.Cells.{gated-both, gated-shut}
 
 -- Each gate, where it is open, says that the interrupt is implemented and that the side sees it.

@@ -1,7 +1,7 @@
 -- K1 to K12, document 01's "Cases", as one table: the start, each step with its answer, and the records after it.
 -- A record that a step's row does not name is as it was before the step.
 use mathlib.Core.Path.{_≡_}
-use mathlib.Core.Bool.{Bool, true, false, cond}
+use mathlib.Core.Bool.{true, false, cond}
 use mathlib.Core.List.{List, [], _∷_}
 use Prim.Native.Nat.{ℕ}
 use lib.Dec.{eqb}

@@ -1,5 +1,5 @@
 -- One interrupt, as document 01's "Shape and tables" has it: whether it is implemented, and the eight bits of its record.
-use mathlib.Core.Bool.{Bool, true, false, cond, not, _&&_, _||_}
+use mathlib.Core.Bool.{Bool, cond, not, _&&_, _||_}
 use Prim.Native.Nat.{ℕ, _+_, _*_, _/_, _%_}
 use lib.Dec.{eqb, ltb}
 use Rattle.lists.specs.Word.{digit}

@@ -1,8 +1,8 @@
 -- The listed registers and where an access goes: document 01's "Listed registers" and refusals 2 to 6.
-use mathlib.Core.Bool.{Bool, true, false, cond, not, _&&_, _||_}
+use mathlib.Core.Bool.{Bool, true, false, cond, not, _||_}
 use mathlib.Core.List.{List, [], _∷_}
 use Prim.Native.Nat.{ℕ, _+_, _*_, _-_, _/_, _%_}
-use lib.Dec.{eqb, ltb, leb}
+use lib.Dec.{eqb, ltb}
 use Rattle.types.specs.declared.Frame.{Frame}
 use Rattle.types.specs.declared.Frame.the-variants.{Dist, Redist}
 use Rattle.types.specs.declared.Family.{Family}
@@ -14,7 +14,6 @@ use Rattle.types.specs.declared.Place.the-variants as place
 use Rattle.types.specs.declared.Refusal.the-variants as refusal
 use Rattle.types.specs.declared.Decoded.{Decoded}
 use Rattle.types.specs.declared.Decoded.the-variants.{At, Refused}
-use Rattle.types.specs.declared.Access.{Access}
 use Rattle.meaning.specs.Layout.{between}
 
 abbrev pub families : List Family

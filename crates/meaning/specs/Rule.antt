@@ -1,8 +1,8 @@
 -- What a step does to one interrupt, and what a read shows of it: document 01's "Effects".
 -- m is the INTID, c its cell. Nothing here depends on any other interrupt.
 use mathlib.Core.Bool.{Bool, true, false, cond, not, _&&_, _||_, Bool·beq}
-use Prim.Native.Nat.{ℕ, _+_, _*_, _-_, _/_, _%_}
-use lib.Dec.{eqb, ltb, leb}
+use Prim.Native.Nat.{ℕ, _*_, _-_, _%_}
+use lib.Dec.{eqb, leb}
 use Rattle.lists.specs.Word.{digit, digitAt}
 use Rattle.types.specs.declared.Bit.{Bit}
 use Rattle.types.specs.declared.Bit.the-variants.{Enabled, Latch, Wire, MessageLevel, Active, Edge, Group, Modifier}

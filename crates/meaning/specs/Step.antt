@@ -1,8 +1,8 @@
 -- What a step is answered, and the lent tables after it: the whole machine, from the rule of one interrupt.
-use mathlib.Core.Bool.{Bool, true, false, cond, not, _&&_, _||_}
+use mathlib.Core.Bool.{Bool, true, false, not}
 use mathlib.Core.List.{List}
 use Prim.Native.Nat.{ℕ, _+_, _*_, _-_, _^_}
-use lib.Dec.{eqb, ltb, leb}
+use lib.Dec.{ltb}
 use Rattle.lists.specs.Map.{mapFrom}
 use Rattle.lists.specs.Word.{digit, row}
 use Rattle.types.specs.declared.Frame.{Frame}

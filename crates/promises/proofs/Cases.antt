@@ -1,13 +1,12 @@
 -- K1 to K12 hold of the lent tables: the meaning's table of cases, carried over, not proved again.
 use mathlib.Core.Path.{_≡_, ap, _∙_}
-use mathlib.Core.Bool.{Bool, true}
+use mathlib.Core.Bool.{true}
 use mathlib.Core.List.{List, [], _∷_}
 use Prim.Native.Nat.{ℕ}
 use Rattle.types.specs.declared.Side.{Side}
-use Rattle.meaning.specs.Cell.{Cell}
-use Rattle.meaning.specs.Layout.{Tables, wellFormed, lengthsFit, shapeFits, cellOf}
-use Rattle.meaning.specs.Rule.{Step, act}
-use Rattle.meaning.specs.Step.{Outcome, unless, answer, tablesAfter, stepped}
+use Rattle.meaning.specs.Layout.{Tables, wellFormed, cellOf}
+use Rattle.meaning.specs.Rule.{act}
+use Rattle.meaning.specs.Step.{answer, stepped}
 use Rattle.meaning.specs.Cases.{bench, Bytes, present, naming, Row, Case, cases, RowsHold, Hold}
 use Rattle.meaning.proofs.After.{cell-after}
 use Rattle.meaning.proofs.Cases.{all-hold}

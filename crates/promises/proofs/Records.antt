@@ -1,13 +1,11 @@
 -- DEMAND 2, on every record: each byte after a step is the rule's; nothing but a reset touches a missing interrupt's record; and
 -- an access leaves every record that its word does not name.
 use mathlib.Core.Path.{_≡_, refl, sym, ap, _∙_}
-use mathlib.Core.Bool.{Bool, true, false, _&&_}
-use mathlib.Core.List.{List}
+use mathlib.Core.Bool.{Bool, true, false}
 use Prim.Native.Nat.{ℕ, _<_}
 use lib.ListN.{length, getD}
 use Rattle.lists.proofs.Maps.{mapFrom-same}
 use Rattle.types.specs.declared.Frame.{Frame}
-use Rattle.types.specs.declared.Frame.the-variants.{Dist, Redist}
 use Rattle.types.specs.declared.Shape.{Shape}
 use Rattle.types.specs.declared.Way.{Way}
 use Rattle.types.specs.declared.Way.the-variants.{Read, Write}
@@ -22,7 +20,7 @@ use Rattle.meaning.specs.Cell.{Cell, decode, encode}
 use Rattle.meaning.specs.Layout.{Tables, recordsOf, wellFormed, intidOf, implemented, cellOf}
 use Rattle.meaning.specs.Registers.{names, placeOf, writtenValue}
 use Rattle.meaning.specs.Rule.{Step, access, act, addresses, wordWritten, messageWritten, written, accessed}
-use Rattle.meaning.specs.Step.{Outcome, unless, answer, ruled, recordsAfter, tablesAfter, stepped}
+use Rattle.meaning.specs.Step.{unless, answer, ruled, tablesAfter, stepped}
 use Rattle.meaning.specs.Sides.{isReset}
 use Rattle.meaning.proofs.Bytes.{encode-decode}
 use Rattle.meaning.proofs.Cells.{gated-false}

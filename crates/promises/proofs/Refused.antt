@@ -16,17 +16,15 @@ use Rattle.types.specs.declared.Decoded.the-variants as decoded
 use Rattle.types.specs.declared.Answer.{Answer}
 use Rattle.types.specs.declared.Answer.the-variants.{Done, Refused}
 use native.Mathlib.Omega.{arith}
-use native.Mathlib.Decide.{ℕ-discrete}
 use Rattle.meaning.specs.Cell.{Cell}
-use Rattle.meaning.specs.Layout.{Tables, recordsOf, wellFormed, shapeFits, lengthsFit, cellOf}
+use Rattle.meaning.specs.Layout.{Tables, wellFormed, shapeFits, lengthsFit, cellOf}
 use Rattle.meaning.specs.Registers.{placeOf, writtenValue}
 use Rattle.meaning.specs.Rule.{Step, access, wire, activate, deactivate, reset, gated, isDone, written, accessed, wireAnswer, activateAnswer, deactivateAnswer, wired, activated, deactivated, act}
-use Rattle.meaning.specs.Step.{Outcome, Cells, unless, read, accessAnswer, answer, ruled, recordsAfter, tablesAfter, stepped}
+use Rattle.meaning.specs.Step.{Cells, unless, read, accessAnswer, answer, ruled, recordsAfter, tablesAfter, stepped}
 use Rattle.meaning.proofs.Cells.{gated-shut}
 use borrow.Author.Tests.{eqb-true}
 use Rattle.lists.proofs.Bools.{and-left, and-right, clash}
 use Rattle.lists.proofs.Maps.{length-mapFrom}
-use Rattle.engine.proofs.Facts.{shape-fits, lengths-fit, table-length}
 use Rattle.engine.proofs.Ruled.{Bytes}
 use Rattle.promises.proofs.Records.{tables-well, ruled-left}
 

@@ -1,6 +1,6 @@
 -- DEMAND 2: bits of missing interrupts read zero, in every family; and each digit of a word that is read is what the rule shows.
 use mathlib.Core.Path.{_≡_, _∙_}
-use mathlib.Core.Bool.{Bool, true, false}
+use mathlib.Core.Bool.{false}
 use Prim.Native.Nat.{ℕ, _+_, _<_}
 use Rattle.lists.specs.Word.{digitAt, row}
 use Rattle.lists.proofs.Rows.{row-digit}

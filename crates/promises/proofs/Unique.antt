@@ -2,7 +2,6 @@
 -- their answers, by number and value, and their tables.
 use mathlib.Core.Path.{_≡_, sym, _∙_, ap}
 use Rattle.types.specs.declared.Shape.{Shape}
-use Rattle.meaning.specs.Answers.{statusOf, valueOf}
 use Rattle.meaning.specs.Layout.{Tables}
 use Rattle.meaning.specs.Rule.{Step}
 use Rattle.meaning.specs.Step.{Outcome, stepped}

@@ -3,7 +3,7 @@ ghost use mathlib.Core.Path.{_≡_};
 ghost use mathlib.Core.Bool.{Bool};
 ghost use Rattle.lists.specs.Word.{digit};
 ghost use Rattle.meaning.specs.Cell.{decode, nonSecure, edgeOf, pending};
-ghost use Rattle.meaning.specs.Rule.{sees, grouping, mayTouch, reaches, shows, visible};
+ghost use Rattle.meaning.specs.Rule.{sees, grouping, mayTouch, shows, visible};
 use bits::has;
 use types::Bit;
 use types::Family;

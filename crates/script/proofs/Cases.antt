@@ -7,7 +7,7 @@ use lib.Dec.{eqb, leb}
 use lib.ListN.{length}
 use borrow.Author.Tests.{le-leb, lt-leb, eq-eqb, ne-eqb}
 use Rattle.text.specs.declared.Number.{Number}
-use Rattle.text.specs.declared.Number.the-variants.{Is, Bad}
+use Rattle.text.specs.declared.Number.the-variants.{Bad}
 use Rattle.text.specs.Text.{bytes}
 use Rattle.text.specs.Number.{choose, numbered}
 use Rattle.keys.specs.Keys.{rank, fieldOf}

@@ -1,16 +1,15 @@
 -- The replay byte by byte is the replay by lines.
-use mathlib.Core.Path.{_≡_, refl, sym, ap, ap₂, _∙_}
+use mathlib.Core.Path.{_≡_, refl, sym, ap, _∙_}
 use mathlib.Core.Bool.{Bool, true, false, _&&_}
-use mathlib.Core.Logic.{⊎-elim}
 use mathlib.Core.List.{List, [], _∷_, _++_, append-assoc, append-nil}
-use Prim.Native.Nat.{ℕ, zero, suc, _+_, _<_, _≤_, min}
+use Prim.Native.Nat.{ℕ, zero, suc, _+_, _≤_}
 use native.Mathlib.Omega.{arith}
 use lib.Dec.{eqb, ltb, leb}
 use lib.ListN.{length, take, length-take, length-append}
 use lib.Seq.{take-all, take-nil, take-append-le}
 use borrow.Author.Tests.{lt-ltb, le-ltb, leb-true, leb-false, eq-eqb, ne-eqb}
 use Rattle.text.specs.declared.Number.{Number}
-use Rattle.text.specs.declared.Number.the-variants.{Is, Bad}
+use Rattle.text.specs.declared.Number.the-variants.{Bad}
 use Rattle.text.specs.Number.{choose, numbered}
 use Rattle.text.specs.Text.{bytes}
 use Rattle.keys.specs.declared.Key.{Key}
@@ -19,7 +18,7 @@ use Rattle.keys.proofs.Fields.{long-field}
 use Rattle.script.specs.declared.Progress.{Progress}
 use Rattle.script.specs.Run.{Run, either, judged, lineRead, badText}
 use Rattle.script.specs.Replay.{Cut, longer, ending-at, cut, start, linesRead, unless, isFirst, ending, finished, replayed}
-use Rattle.script.specs.Stream.{Live, when, lengthened, pushed, byteRead, fed, startLive, closed, inPieces, joined}
+use Rattle.script.specs.Stream.{Live, when, pushed, byteRead, fed, startLive, closed, inPieces, joined}
 use Rattle.script.proofs.Pieces.{pieces}
 
 -- Enough bytes of a line are kept to judge it.

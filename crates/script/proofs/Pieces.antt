@@ -8,8 +8,7 @@ use native.Mathlib.Omega.{arith}
 use lib.Dec.{leb}
 use lib.ListN.{length}
 use borrow.Author.Tests.{le-leb}
-use Rattle.script.specs.Run.{Run}
-use Rattle.script.specs.Stream.{Live, byteRead, fed, closed, quiet, Fed, goOn, hasRoom, within, inPieces, joined, startLive}
+use Rattle.script.specs.Stream.{Live, byteRead, fed, closed, quiet, Fed, goOn, hasRoom, within, inPieces, joined}
 use Rattle.script.proofs.Prefixes.{closed-quiet}
 
 -- pieces compose

@@ -4,7 +4,6 @@ use mathlib.Core.Bool.{Bool, true, false}
 use mathlib.Core.List.{List, [], _∷_, _++_, append-assoc, append-nil}
 use Prim.Native.Nat.{ℕ, _+_}
 use lib.Dec.{eqb, leb}
-use lib.ListN.{length}
 use Rattle.meaning.specs.Step.{Outcome, stepped}
 use Rattle.meaning.specs.Rule.{access}
 use Rattle.text.specs.declared.Number.{Number}

@@ -1,10 +1,10 @@
 -- CLAUSE 4: no Non-secure word access at a listed offset is refused.
-use mathlib.Core.Path.{_≡_, refl, sym, ap, _∙_}
-use mathlib.Core.Bool.{Bool, true, false, not, _||_}
+use mathlib.Core.Path.{_≡_, refl, ap, _∙_}
+use mathlib.Core.Bool.{true}
 use Prim.Native.Nat.{ℕ, _-_, _%_, _≤_}
 use native.Mathlib.Omega.{arith}
-use lib.Dec.{eqb, ltb}
-use borrow.Author.Tests.{eq-eqb, le-ltb}
+use lib.Dec.{ltb}
+use borrow.Author.Tests.{le-ltb}
 use Rattle.types.specs.declared.Frame.{Frame}
 use Rattle.types.specs.declared.Shape.{Shape}
 use Rattle.types.specs.declared.Way.{Way}
@@ -12,15 +12,14 @@ use Rattle.types.specs.declared.Way.the-variants.{Read, Write}
 use Rattle.types.specs.declared.Access.{Access}
 use Rattle.types.specs.declared.Place.{Place}
 use Rattle.types.specs.declared.Place.the-variants as place
-use Rattle.types.specs.declared.Refusal.the-variants as refusal
 use Rattle.types.specs.declared.Decoded.{Decoded}
-use Rattle.types.specs.declared.Decoded.the-variants.{At, Refused}
+use Rattle.types.specs.declared.Decoded.the-variants.{At}
 use Rattle.types.specs.declared.Answer.{Answer}
 use Rattle.types.specs.declared.Answer.the-variants.{Done}
 use Rattle.meaning.specs.Layout.{Tables, wellFormed, cellOf}
-use Rattle.meaning.specs.Registers.{listed, wideEnough, narrow, pick, placeOf}
+use Rattle.meaning.specs.Registers.{listed, wideEnough, placeOf}
 use Rattle.meaning.specs.Rule.{access}
-use Rattle.meaning.specs.Step.{Outcome, read, accessAnswer, answer, stepped}
+use Rattle.meaning.specs.Step.{read, accessAnswer, answer, stepped}
 use Rattle.promises.proofs.Refused.{answer-well}
 
 -- a word access at a listed offset goes to its place

@@ -9,26 +9,25 @@ use lib.Dec.{eqb, ltb}
 use borrow.Author.Tests.{eqb-true, lt-ltb, le-ltb}
 use Rattle.lists.specs.Word.{digit, digitAt, bitAt, row}
 use Rattle.lists.proofs.Maps.{length-mapFrom, at-mapFrom}
-use Rattle.lists.proofs.Bools.{and-left, and-right, both, clash}
+use Rattle.lists.proofs.Bools.{and-left, and-right}
 use Rattle.lists.proofs.Rows.{row-digit}
 use Rattle.types.specs.declared.Frame.{Frame}
 use Rattle.types.specs.declared.Frame.the-variants.{Dist, Redist}
 use Rattle.types.specs.declared.Home.{Home}
 use Rattle.types.specs.declared.Home.the-variants.{Slot, Nowhere}
 use Rattle.types.specs.declared.Shape.{Shape}
-use Rattle.meaning.specs.Cell.{Cell, decode, nonSecure}
+use Rattle.meaning.specs.Cell.{decode, nonSecure}
 use Rattle.meaning.specs.Layout.{Tables, presenceOf, homeOf, inRange, presentAt, byteAt, shapeFits, lengthsFit, wellFormed, implemented, cellOf}
 use Rattle.meaning.specs.Rule.{Step}
-use Rattle.meaning.specs.Step.{Outcome, stepped}
 use Rattle.meaning.specs.Sides.{owned}
 use Rattle.meaning.proofs.Bytes.{digit-back}
 use Rattle.meaning.proofs.Homes.{home-cases, presenceWords, home-word}
 use Rattle.engine.proofs.Facts.{presence-fits}
-use Rattle.separation.specs.Machine.{Machine, Alike, Item, publics, Agree}
-use Rattle.separation.specs.Steps.{controller, NonSecureStep, PrivateStep}
+use Rattle.separation.specs.Machine.{Alike, Item, publics}
+use Rattle.separation.specs.Steps.{controller}
 use Rattle.separation.proofs.Runs.{alone}
 use Rattle.separation.proofs.Tables.{Same, run-alone, runs-alike}
-use Rattle.separation.specs.Lent.{presentIntid, secureAt, cleared, withoutSecure, outcomes, finally, Run, AgreeOutcomes}
+use Rattle.separation.specs.Lent.{presentIntid, secureAt, cleared, withoutSecure, Run}
 
 -- bit m % 32 of a home's presence word is the bit of m
 abbrev Named : ℕ → Home → Type 0

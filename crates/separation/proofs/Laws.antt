@@ -1,10 +1,8 @@
 -- The controller obeys the laws: all that separation knows of registers.
 use mathlib.Core.Path.{_≡_, refl, sym, ap, _∙_, subst}
 use mathlib.Core.Bool.{Bool, true, false, _&&_}
-use Prim.Native.Nat.{ℕ, _+_, _-_, _%_, _<_}
-use native.Mathlib.Decide.{ℕ-discrete}
-use lib.Dec.{eqb}
-use Rattle.lists.specs.Word.{digitAt, row}
+use Prim.Native.Nat.{ℕ, _+_, _-_, _%_}
+use Rattle.lists.specs.Word.{row}
 use Rattle.lists.proofs.Bools.{clash}
 use Rattle.lists.proofs.Rows.{row-same}
 use Rattle.types.specs.declared.Shape.{Shape}
@@ -25,14 +23,14 @@ use Rattle.types.specs.declared.Answer.{Answer}
 use Rattle.types.specs.declared.Answer.the-variants.{Done, Refused}
 use Rattle.meaning.specs.Cell.{Cell}
 use Rattle.meaning.specs.Registers.{digitBits, placeOf, writtenValue, first, count, names}
-use Rattle.meaning.specs.Rule.{Step, access, wire, activate, deactivate, reset, grouping, setOrClear, visible, wordWritten, messageWritten, written, accessed, isDone, wireAnswer, activateAnswer, deactivateAnswer, wired, activated, deactivated, act}
+use Rattle.meaning.specs.Rule.{Step, access, wire, activate, deactivate, grouping, setOrClear, visible, wordWritten, written, accessed, wireAnswer, activateAnswer, deactivateAnswer, wired, activated, deactivated, act}
 use Rattle.meaning.specs.Step.{Cells, wordRead, read, accessAnswer, answer}
-use Rattle.meaning.specs.Sides.{owned, sideOf, secure, writes, groupingAt, regroups}
+use Rattle.meaning.specs.Sides.{owned, secure, writes, groupingAt, regroups}
 use Rattle.meaning.proofs.Cells.{gated-shut}
 use Rattle.meaning.proofs.Rules.{secure-left, secure-unseen, secure-refused}
 use Rattle.meaning.proofs.Kept.{owned-kept}
 use Rattle.meaning.proofs.Quiet.{word-quiet, message-quiet, event-quiet}
-use Rattle.separation.specs.Machine.{Machine, Alike, Separate}
+use Rattle.separation.specs.Machine.{Alike, Separate}
 use Rattle.separation.specs.Steps.{controller, NonSecureStep, its-access, its-activation, its-deactivation, its-wire, WordOf, word, extended, SecureWrite, PrivateStep, unchanging, no-one, other-message, secure-fields, secure-wire, secure-activation, secure-deactivation}
 
 -- a step of a run does not regroup

@@ -1,8 +1,8 @@
 -- Secure steps that can change no record are private, whatever they name: document 01's first kind, one by one. The other kinds
 -- are the constructors of PrivateStep; that each leaves what the Non-secure side owns is `private-quiet` in Laws.
-use mathlib.Core.Path.{_≡_, refl, sym, ap, _∙_}
-use mathlib.Core.Bool.{Bool, true, false, not, _&&_, _||_}
-use Prim.Native.Nat.{ℕ, _+_, _-_, _%_, _<_}
+use mathlib.Core.Path.{_≡_, refl, ap, _∙_}
+use mathlib.Core.Bool.{Bool, true, false, _&&_, _||_}
+use Prim.Native.Nat.{ℕ, _+_, _-_, _%_}
 use native.Mathlib.Omega.{arith}
 use lib.Dec.{eqb}
 use borrow.Author.Tests.{eqb-true, lt-ltb}
@@ -12,7 +12,7 @@ use Rattle.types.specs.declared.Frame.{Frame}
 use Rattle.types.specs.declared.Frame.the-variants.{Redist}
 use Rattle.types.specs.declared.Family.the-variants.{Icfgr}
 use Rattle.types.specs.declared.Side.{Side}
-use Rattle.types.specs.declared.Side.the-variants.{Secure, NonSecure}
+use Rattle.types.specs.declared.Side.the-variants.{Secure}
 use Rattle.types.specs.declared.Way.{Way}
 use Rattle.types.specs.declared.Way.the-variants.{Read, Write}
 use Rattle.types.specs.declared.Access.{Access}
@@ -22,13 +22,12 @@ use Rattle.types.specs.declared.Message as message
 use Rattle.types.specs.declared.Refusal.{Refusal}
 use Rattle.types.specs.declared.Decoded.{Decoded}
 use Rattle.types.specs.declared.Decoded.the-variants as decoded
-use Rattle.types.specs.declared.Answer.the-variants.{Done, Refused}
+use Rattle.types.specs.declared.Answer.the-variants.{Refused}
 use Rattle.meaning.specs.Cell.{Cell, sgi}
 use Rattle.meaning.specs.Layout.{spi, between}
 use Rattle.meaning.specs.Registers.{digitBits, res0, placeOf, writtenValue, first, count, names}
-use Rattle.meaning.specs.Rule.{Step, access, wire, addresses, fixedField, update, reaches, touched, wordWritten, written, accessed, act}
+use Rattle.meaning.specs.Rule.{Step, access, addresses, fixedField, update, reaches, touched, wordWritten, written, accessed, act}
 use Rattle.meaning.specs.Step.{Cells, answer}
-use Rattle.meaning.specs.Sides.{owned}
 use Rattle.lists.specs.Word.{digitAt}
 use Rattle.meaning.proofs.Cells.{gated-keeps}
 use Rattle.meaning.proofs.Effects.{field-ignored}

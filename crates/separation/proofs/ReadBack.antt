@@ -3,7 +3,7 @@
 -- v. Exactly, in every digit.
 use mathlib.Core.Path.{_≡_, refl, sym, ap, ap₂, _∙_}
 use mathlib.Core.Bool.{Bool, true, false, cond, not, _&&_, _||_}
-use Prim.Native.Nat.{ℕ, _+_, _-_, _%_, _<_, _≤_}
+use Prim.Native.Nat.{ℕ, _+_, _-_, _%_, _≤_}
 use native.Mathlib.Omega.{arith}
 use lib.Dec.{eqb}
 use Rattle.lists.specs.Word.{digit, digitAt, row}
@@ -15,9 +15,7 @@ use Rattle.types.specs.declared.Frame.{Frame}
 use Rattle.types.specs.declared.Family.{Family}
 use Rattle.types.specs.declared.Family.the-variants.{Igroupr, Isenabler, Icenabler, Ispendr, Icpendr, Isactiver, Icactiver, Igrpmodr, Icfgr}
 use Rattle.types.specs.declared.Shape.{Shape}
-use Rattle.types.specs.declared.Way.{Way}
 use Rattle.types.specs.declared.Way.the-variants.{Read, Write}
-use Rattle.types.specs.declared.Access.{Access}
 use Rattle.types.specs.declared.Place.{Place}
 use Rattle.types.specs.declared.Place.the-variants as place
 use Rattle.types.specs.declared.Decoded.{Decoded}
@@ -28,8 +26,8 @@ use Rattle.meaning.specs.Answers.{valueOf}
 use Rattle.meaning.specs.Cell.{Cell, get, put, nonSecure}
 use Rattle.meaning.specs.Layout.{Tables, wellFormed, cellOf}
 use Rattle.meaning.specs.Registers.{digitBits, listed, placeOf, first, count, names, writtenValue}
-use Rattle.meaning.specs.Rule.{Step, access, gated, setter, sees, mayTouch, setting, clearing, update, shows, reaches, touched, visible, wordWritten, written, accessed, act}
-use Rattle.meaning.specs.Step.{Outcome, Cells, wordRead, read, accessAnswer, answer, tablesAfter, stepped}
+use Rattle.meaning.specs.Rule.{access, gated, setter, sees, mayTouch, setting, clearing, update, shows, reaches, touched, visible, wordWritten, written, accessed, act}
+use Rattle.meaning.specs.Step.{Cells, wordRead, read, accessAnswer, answer, stepped}
 use Rattle.meaning.specs.Sides.{owned}
 use Rattle.meaning.proofs.Cells.{gated-true, gated-false}
 use Rattle.meaning.proofs.Effects.{set-shown, enable-cleared, active-cleared}

@@ -1,6 +1,6 @@
 -- The run theorems, over any machine that obeys the laws: one induction, and what follows from it.
-use mathlib.Core.Path.{_≡_, refl, sym, ap, _∙_, subst}
-use mathlib.Core.Bool.{Bool, true, false}
+use mathlib.Core.Path.{_≡_, refl, sym, ap, _∙_}
+use mathlib.Core.Bool.{false}
 use mathlib.Core.List.{List, [], _∷_}
 use Prim.Native.Nat.{ℕ}
 use Rattle.separation.specs.Machine.{Machine, after, Alike, Item, public, private, publics, Seen, seen, ended, Agree, Honest, Separate}

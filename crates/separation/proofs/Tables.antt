@@ -1,25 +1,22 @@
 -- DEMAND 3 on the lent tables.
 use mathlib.Core.Path.{_≡_, refl, sym, ap, ap₂, _∙_, subst}
-use mathlib.Core.Bool.{Bool, true, false, cond, not, _&&_}
+use mathlib.Core.Bool.{Bool, true, false, not, _&&_}
 use mathlib.Core.List.{List, [], _∷_, map}
-use Prim.Native.Nat.{ℕ, _+_, _*_, _-_, _%_, _/_, _≤_, _<_}
-use native.Mathlib.Omega.{arith}
-use lib.ListN.{getD, length}
-use Rattle.lists.proofs.Bools.{and-left, and-right, both, clash}
-use Rattle.types.specs.declared.Frame.{Frame}
-use Rattle.types.specs.declared.Frame.the-variants.{Dist, Redist}
+use Prim.Native.Nat.{ℕ, _-_}
+use lib.ListN.{length}
+use Rattle.lists.proofs.Bools.{and-left, and-right, both}
 use Rattle.types.specs.declared.Shape.{Shape}
 use Rattle.types.specs.declared.Answer.{Answer}
 use Rattle.meaning.specs.Cell.{Cell, decode, nonSecure}
 use Rattle.meaning.specs.Layout.{Tables, wellFormed, implemented, cellOf}
-use Rattle.meaning.specs.Rule.{Step, act}
+use Rattle.meaning.specs.Rule.{Step}
 use Rattle.meaning.specs.Step.{Outcome, answer, stepped}
 use Rattle.meaning.specs.Sides.{owned}
 use Rattle.meaning.proofs.After.{cell-after}
 use Rattle.engine.proofs.Facts.{lengths-fit}
 use Rattle.promises.proofs.Records.{tables-well}
 use Rattle.promises.proofs.Refused.{answer-well, well-kept}
-use Rattle.separation.specs.Machine.{Machine, after, Alike, Item, public, private, publics, Seen, seen, ended, Agree, Honest}
+use Rattle.separation.specs.Machine.{after, Alike, Item, public, private, publics, Seen, seen, ended, Agree, Honest}
 use Rattle.separation.specs.Steps.{controller, NonSecureStep, PrivateStep}
 use Rattle.separation.specs.Lent.{outcomes, finally, Run, AlikeTables, viewed, AgreeOutcomes}
 use Rattle.separation.proofs.Runs.{alone, alike-refl, without-private, alone-honest, two-runs, run-left}

@@ -2,32 +2,31 @@
 -- In the first, SPI 300 is Non-secure and pending, and SPI 44, the wheel-speed tick, is Secure with its wire low; the second is the
 -- first after that wire went high. On the first the wire rises between the Non-secure steps, on the second nothing happens there.
 use mathlib.Core.Path.{_≡_, refl, sym, ap, _∙_}
-use mathlib.Core.Bool.{Bool, true, false, cond, not, _&&_, _||_}
-use mathlib.Core.List.{List, [], _∷_, _++_}
+use mathlib.Core.Bool.{Bool, true, false, cond, not, _&&_}
+use mathlib.Core.List.{[], _∷_, _++_}
 use Prim.Native.Nat.{ℕ}
-use native.Mathlib.Omega.{arith}
 use lib.ListN.{length, getD, replicate}
-use Rattle.types.specs.declared.Frame.the-variants.{Dist, Redist}
-use Rattle.types.specs.declared.Side.the-variants.{Secure, NonSecure}
-use Rattle.types.specs.declared.Way.the-variants.{Read, Write}
+use Rattle.types.specs.declared.Frame.the-variants.{Dist}
+use Rattle.types.specs.declared.Side.the-variants.{Secure}
+use Rattle.types.specs.declared.Way.the-variants.{Read}
 use Rattle.types.specs.declared.Shape.{Shape}
 use Rattle.types.specs.declared.Answer.the-variants.{Done}
-use Rattle.meaning.specs.Cell.{Cell, put, decode, encode, nonSecure, pending, edgeOf, sgi}
+use Rattle.meaning.specs.Cell.{put, decode, encode, nonSecure, pending, edgeOf, sgi}
 use Rattle.lists.specs.Map.{mapFrom}
 use Rattle.lists.specs.Word.{digitAt, bitAt, row}
 use Rattle.meaning.specs.Registers.{placeOf, listed, inColumn, count, res0, first}
 use Rattle.meaning.specs.Cases.{bench}
-use Rattle.meaning.specs.Layout.{Tables, recordsOf, wellFormed, lengthsFit, shapeFits, intidOf, implemented, homeOf, inRange, cellOf}
+use Rattle.meaning.specs.Layout.{Tables, wellFormed, lengthsFit, shapeFits, intidOf, implemented, homeOf, inRange, cellOf}
 use Rattle.meaning.specs.Rule.{Step, wire, wireAnswer, rises, wired, act, visible, reaches, mayTouch, sees, shows}
-use Rattle.meaning.specs.Step.{Outcome, read, wordRead, answer, ruled, recordsAfter, tablesAfter, stepped}
+use Rattle.meaning.specs.Step.{read, wordRead, answer, ruled, recordsAfter, tablesAfter, stepped}
 use Rattle.meaning.specs.Sides.{owned}
 use Rattle.meaning.proofs.After.{implemented-after, cell-after}
 use Rattle.engine.proofs.Facts.{lengths-fit}
 use Rattle.promises.proofs.Records.{tables-well}
 use Rattle.promises.proofs.Refused.{well-kept}
-use Rattle.separation.specs.Machine.{Item, public, private}
-use Rattle.separation.specs.Steps.{controller, NonSecureStep, PrivateStep, secure-wire, its-access}
-use Rattle.separation.specs.Lent.{Run, AlikeTables}
+use Rattle.separation.specs.Machine.{public, private}
+use Rattle.separation.specs.Steps.{controller, PrivateStep, secure-wire, its-access}
+use Rattle.separation.specs.Lent.{AlikeTables}
 use Rattle.separation.specs.ReadBack.{nonSecureWord}
 use Rattle.separation.proofs.Laws.{controller-separate}
 use Rattle.separation.proofs.Tables.{Same, same-for-both}

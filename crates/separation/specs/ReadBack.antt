@@ -8,7 +8,6 @@ use Rattle.types.specs.declared.Frame.{Frame}
 use Rattle.types.specs.declared.Family.{Family}
 use Rattle.types.specs.declared.Family.the-variants.{Igroupr, Isenabler, Icenabler, Ispendr, Icpendr, Isactiver, Icactiver, Igrpmodr, Icfgr}
 use Rattle.types.specs.declared.Way.{Way}
-use Rattle.types.specs.declared.Access.{Access}
 use Rattle.types.specs.declared.Place.{Place}
 use Rattle.meaning.specs.Registers.{digitBits, first, count}
 use Rattle.meaning.specs.Rule.{Step, access}

@@ -5,9 +5,8 @@ use Prim.Native.Nat.{ℕ, _-_, _%_}
 use lib.Dec.{eqb}
 use Rattle.lists.specs.Word.{digitAt}
 use Rattle.types.specs.declared.Shape.{Shape}
-use Rattle.types.specs.declared.Side.{Side}
 use Rattle.types.specs.declared.Side.the-variants.{Secure, NonSecure}
-use Rattle.types.specs.declared.Way.the-variants.{Read, Write}
+use Rattle.types.specs.declared.Way.the-variants.{Write}
 use Rattle.types.specs.declared.Access.{Access}
 use Rattle.types.specs.declared.Family.{Family}
 use Rattle.types.specs.declared.Family.the-variants.{Icfgr}
@@ -16,7 +15,7 @@ use Rattle.types.specs.declared.Place.the-variants as place
 use Rattle.types.specs.declared.Message as message
 use Rattle.types.specs.declared.Decoded.the-variants.{At}
 use Rattle.types.specs.declared.Answer.{Answer}
-use Rattle.meaning.specs.Cell.{Cell, nonSecure}
+use Rattle.meaning.specs.Cell.{Cell}
 use Rattle.meaning.specs.Registers.{digitBits, placeOf, writtenValue, first, names}
 use Rattle.meaning.specs.Rule.{Step, access, wire, activate, deactivate, setOrClear, act}
 use Rattle.meaning.specs.Step.{Cells, answer}

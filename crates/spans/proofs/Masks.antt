@@ -1,5 +1,5 @@
 -- Bit x of a word's mask says whether record x of its span is implemented; and the span's slots are the word's INTIDs.
-use mathlib.Core.Path.{_≡_, refl, sym, ap, ap₂, _∙_}
+use mathlib.Core.Path.{_≡_, refl, sym, ap, _∙_}
 use mathlib.Core.Bool.{Bool, true, false, cond, not, _&&_}
 use Prim.Native.Nat.{ℕ, _+_, _*_, _-_, _/_, _%_, _^_, _≤_, _<_, min}
 use native.Mathlib.Nat.{zero-div}
@@ -7,19 +7,18 @@ use native.Mathlib.Omega.{arith}
 use lib.Dec.{eqb, ltb, leb}
 use lib.ListN.{getD}
 use lib.Pow.{shr-shr}
-use borrow.Author.Tests.{ltb-true, ltb-false, leb-true, le-leb, lt-ltb, le-ltb, not-true}
+use borrow.Author.Tests.{ltb-true, ltb-false, le-leb, not-true}
 use Rattle.lists.specs.Word.{bitAt}
 use Rattle.lists.proofs.Bools.{and-left, and-right}
 use Rattle.types.specs.declared.Shape.{Shape}
 use Rattle.types.specs.declared.Family.{Family}
-use Rattle.types.specs.declared.Frame.{Frame}
 use Rattle.types.specs.declared.Frame.the-variants.{Dist, Redist}
 use Rattle.types.specs.declared.Place.{Place}
 use Rattle.types.specs.declared.Place.the-variants.{Word, Extended, Typer, Message}
 use Rattle.meaning.specs.Layout.{Tables, shapeFits, implemented}
 use Rattle.meaning.specs.Registers.{digitBits, perWord, distWords, redistWords, low, first}
 use Rattle.spans.specs.Span.{valid, startOf, endOf, bankOf, halfOf, presenceIndex, inShape, shiftOf, maskOf, frameOf}
-use Rattle.spans.proofs.Numbers.{dist-covers, redist-covers, low-covers, high-covers, low-redist, bank-half, half-room, dist-bank, redist-bank, low-bank, high-bank, per-small}
+use Rattle.spans.proofs.Numbers.{high-covers, bank-half, half-room, dist-bank, redist-bank, low-bank, high-bank}
 use Rattle.homes.proofs.Ranges.{implemented-low, implemented-spi, implemented-eppi, implemented-espi}
 
 -- bit x of a shifted word that may be out of the shape

@@ -1,8 +1,8 @@
 -- Whatever the decoder answers is a word that its column has.
 use mathlib.Core.Path.{_≡_, refl}
-use mathlib.Core.Bool.{Bool, true, false, cond, not, _&&_, _||_}
+use mathlib.Core.Bool.{Bool, true, false, cond, not, _||_}
 use mathlib.Core.List.{List, [], _∷_}
-use Prim.Native.Nat.{ℕ, _+_, _*_, _-_, _/_, _%_, _≤_, _<_}
+use Prim.Native.Nat.{ℕ, _+_, _*_, _-_, _/_, _%_, _<_}
 use native.Mathlib.Omega.{arith}
 use lib.Dec.{eqb, ltb}
 use borrow.Author.Tests.{lt-ltb}
@@ -10,7 +10,6 @@ use Rattle.lists.proofs.Bools.{both}
 use Rattle.types.specs.declared.Frame.{Frame}
 use Rattle.types.specs.declared.Frame.the-variants.{Dist, Redist}
 use Rattle.types.specs.declared.Family.{Family}
-use Rattle.types.specs.declared.Message.the-variants.{SetspiNsr, ClrspiNsr, SetspiSr, ClrspiSr}
 use Rattle.types.specs.declared.Message as message
 use Rattle.types.specs.declared.Place.{Place}
 use Rattle.types.specs.declared.Place.the-variants.{Word, Extended, Typer, Message}
@@ -18,7 +17,7 @@ use Rattle.types.specs.declared.Refusal.the-variants as refusal
 use Rattle.types.specs.declared.Decoded.{Decoded}
 use Rattle.types.specs.declared.Decoded.the-variants.{At, Refused}
 use Rattle.meaning.specs.Layout.{between}
-use Rattle.meaning.specs.Registers.{digitBits, distWords, redistWords, base, extendedBase, families, messages, messageOffset, low, redistPlace, pick, inColumn, inMessages, listed, wideEnough, narrow, placeOf}
+use Rattle.meaning.specs.Registers.{distWords, redistWords, base, extendedBase, families, messages, messageOffset, low, redistPlace, pick, inColumn, inMessages, listed, wideEnough, narrow, placeOf}
 use Rattle.meaning.proofs.Homes.{between-low, between-high}
 use Rattle.spans.specs.Span.{valid}
 

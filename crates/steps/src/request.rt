@@ -1,6 +1,5 @@
 // The values of a step's lines, put together.
 ghost use mathlib.Core.Path.{_≡_};
-ghost use lib.Dec.{eqb};
 ghost use Rattle.script.specs.Run.{frameOf, sideOf, wayOf, shapeOf, requestOf};
 use types::Access;
 use types::Frame;

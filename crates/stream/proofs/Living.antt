@@ -1,19 +1,19 @@
 -- From lines to bytes, and from bytes to a piece.
 use mathlib.Core.Path.{_≡_, refl, sym, ap, subst, _∙_}
 use mathlib.Core.Bool.{Bool, true, false, true≢false}
-use mathlib.Core.List.{List, [], _∷_, _++_}
-use Prim.Native.Nat.{ℕ, suc, _+_, _-_, _<_, _≤_, min}
+use mathlib.Core.List.{List, [], _∷_}
+use Prim.Native.Nat.{ℕ, _+_, _-_, _<_, _≤_}
 use native.Mathlib.Numerals.{add-one}
 use native.Mathlib.Omega.{arith}
-use lib.Dec.{eqb, leb, ltb}
-use lib.ListN.{length, take, drop, getD, set, length-take, length-drop, drop-of-length-le}
-use lib.Seq.{take-suc-set, take-all, drop-cons, drop-drop}
-use borrow.Author.Tests.{lt-ltb, le-ltb, le-leb, lt-leb, ne-eqb}
+use lib.Dec.{eqb, leb}
+use lib.ListN.{length, take, drop, getD, length-take, length-drop, drop-of-length-le}
+use lib.Seq.{drop-cons, drop-drop}
+use borrow.Author.Tests.{le-leb, lt-leb, ne-eqb}
 use Rattle.meaning.specs.Layout.{Tables}
 use Rattle.script.specs.declared.Progress.{Progress}
 use Rattle.script.specs.Run.{Run, lineRead}
 use Rattle.script.proofs.Pieces.{within-goes}
-use Rattle.script.specs.Stream.{Live, when, lengthened, pushed, byteRead, Fed, goOn, hasRoom, within}
+use Rattle.script.specs.Stream.{Live, when, pushed, byteRead, Fed, goOn, hasRoom, within}
 use Rattle.held.specs.declared.State.{State}
 use Rattle.lines.specs.Reached.{runOf, Reached}
 use Rattle.stream.specs.Living.{liveOf, Living, Taken}

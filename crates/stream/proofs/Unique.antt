@@ -1,11 +1,10 @@
 -- Two outcomes of a piece that both keep feed's promise are one: the state, the tables, both buffers and both counts.
 use mathlib.Core.Path.{_≡_, sym, ap, _∙_}
 use mathlib.Core.List.{List, _++_}
-use Prim.Native.Nat.{ℕ, _+_, _-_, _≤_}
+use Prim.Native.Nat.{ℕ, _+_, _-_}
 use native.Mathlib.Omega.{arith}
 use lib.ListN.{length, take, drop, take-append-drop, length-take, length-drop}
 use Rattle.meaning.specs.Layout.{Tables}
-use Rattle.script.specs.declared.Progress.{Progress}
 use Rattle.script.specs.Stream.{Live, Fed}
 use Rattle.held.specs.declared.State.{State}
 use Rattle.held.specs.Held.{Held, heldIn, bytesHeld}

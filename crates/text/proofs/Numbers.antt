@@ -1,6 +1,6 @@
 -- Numbers in text, digit by digit; what is too large, or too long, is none.
-use mathlib.Core.Path.{_≡_, refl, sym, ap, _∙_}
-use mathlib.Core.Bool.{Bool, true, false, _&&_, _||_}
+use mathlib.Core.Path.{_≡_, refl, sym, ap}
+use mathlib.Core.Bool.{Bool, true, false}
 use mathlib.Core.List.{List, [], _∷_, _++_}
 use Prim.Native.Nat.{ℕ, zero, suc, _+_, _*_, _-_, _/_, _%_, _^_, _<_, _≤_, zero-le}
 use native.Mathlib.Nat.{not-suc-le-zero, pow-succ', mul-assoc, mul-le-mul, mul-le-mul-right, pow-le-pow-right}
@@ -11,7 +11,7 @@ use lib.ListN.{length, getD, drop, length-append}
 use lib.Seq.{drop-cons, drop-length}
 use borrow.Author.Tests.{lt-leb, lt-ltb, le-ltb, leb-true, eqb-false, ne-eqb}
 use Rattle.text.specs.declared.Number.{Number}
-use Rattle.text.specs.declared.Number.the-variants.{Is, Bad}
+use Rattle.text.specs.declared.Number.the-variants.{Bad}
 use Rattle.text.specs.Number.{choose, isDigit, limited, digitsAfter, unless, digitsOf, decimal, numbered, leadingZero, numberIn}
 
 pub digits-step : (n : ℕ) (t : List ℕ) (i : ℕ) → i < length t

@@ -2,8 +2,6 @@
 // The part of the table that holds them is lent; nothing is copied, and no record outside the part is looked at.
 ghost use mathlib.Core.Path.{_≡_};
 ghost use Prim.Native.Nat.{_*_, _<_, _≤_};
-ghost use lib.ListN.{length};
-ghost use Rattle.lists.specs.Word.{digitAt};
 ghost use Rattle.meaning.specs.Registers.{digitBits};
 ghost use Rattle.words.specs.Part.{Fitting, shownAt, gathered, storedAt, stored};
 use families::digit_bits;

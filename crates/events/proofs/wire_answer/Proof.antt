@@ -1,5 +1,4 @@
-use borrow.Author.Needs.{needs}
-use borrow.Author.Tests.{lt-ltb, le-ltb, not-true, not-false}
+use borrow.Author.Tests.{lt-ltb, le-ltb}
 use Rattle.meaning.specs.Cell.{decode, sgi}
 use Rattle.meaning.specs.Rule.{wireAnswer}
 use Rattle.events.proofs.wire_answer.Statement.{statement}

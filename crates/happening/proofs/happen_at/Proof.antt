@@ -1,7 +1,6 @@
 use denote.Ref.{now}
 use mathlib.Core.Path.{sym, ap, _∙_}
 use mathlib.Core.Bool.{true}
-use Rattle.happening.specs.Event.{happened, happenedAt}
 use Rattle.happening.proofs.Slots.{refused-at, done-at}
 use borrow.Author.Needs.{needs}
 use Rattle.happening.proofs.happen_at.Statement.{statement}

@@ -1,4 +1,3 @@
-use borrow.Author.Needs.{needs}
 use mathlib.Core.Path.{refl}
 use Rattle.script.specs.Replay.{startProgress}
 use Rattle.held.specs.Held.{startState}

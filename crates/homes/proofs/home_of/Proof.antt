@@ -1,5 +1,4 @@
 use mathlib.Core.Path.{sym}
-use native.Mathlib.Omega.{arith}
 use Rattle.meaning.proofs.Homes.{home-low, home-spi, home-eppi, home-espi}
 use Rattle.homes.proofs.Ranges.{home-gap, home-gap2, home-past}
 use borrow.Author.Needs.{needs}

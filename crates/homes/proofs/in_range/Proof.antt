@@ -1,4 +1,3 @@
-use borrow.Author.Needs.{needs}
 use mathlib.Core.Path.{sym}
 use native.Mathlib.Omega.{arith}
 use Rattle.homes.proofs.Ranges.{limits, range-low, range-spi, range-gap, range-eppi, range-espi}

@@ -1,5 +1,4 @@
 use borrow.Author.Tests.{le-leb, lt-leb}
-use Rattle.keys.specs.Keys.{atMost}
 use Rattle.text.specs.Number.{limited}
 use borrow.Author.Needs.{needs}
 use Rattle.keys.proofs.at_most.Statement.{statement}

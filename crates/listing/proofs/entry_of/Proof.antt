@@ -1,4 +1,3 @@
-use borrow.Author.Needs.{needs}
 use borrow.Author.Tests.{ne-eqb}
 use Rattle.listing.specs.Entry.{entryOf}
 use Rattle.listing.proofs.entry_of.Statement.{statement}

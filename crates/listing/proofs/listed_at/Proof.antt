@@ -1,7 +1,6 @@
-use mathlib.Core.Path.{_≡_, sym, ap, _∙_}
-use Prim.Native.Nat.{ℕ, _*_, _/_}
+use mathlib.Core.Path.{_≡_, sym, _∙_}
+use Prim.Native.Nat.{_*_, _/_}
 use native.Mathlib.Omega.{arith}
-use Rattle.listing.specs.Entry.{entryOf, distPlace, redistWord}
 use Rattle.listing.proofs.Agree.{dist-agree, redist-agree, dist-beyond, redist-beyond}
 use borrow.Author.Needs.{needs}
 use Rattle.listing.proofs.listed_at.Statement.{statement}

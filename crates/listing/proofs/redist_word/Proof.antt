@@ -1,6 +1,4 @@
-use mathlib.Core.Path.{ap, _∙_}
-use Prim.Native.Nat.{ℕ}
-use Rattle.listing.specs.Entry.{redistRegister, redistWord}
+use Rattle.listing.specs.Entry.{redistWord}
 use borrow.Author.Needs.{needs}
 use Rattle.listing.proofs.redist_word.Statement.{statement}
 use Rattle.listing.proofs.redist_word.Tie as tie

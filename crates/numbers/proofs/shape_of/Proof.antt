@@ -1,4 +1,3 @@
-use borrow.Author.Needs.{needs}
 use mathlib.Core.Path.{refl}
 use Rattle.numbers.specs.Numbers.{shapeOf}
 use Rattle.numbers.proofs.shape_of.Statement.{statement}

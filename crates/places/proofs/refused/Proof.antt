@@ -1,4 +1,3 @@
-use mathlib.Core.Path.{sym, ap, _∙_, refl}
 use borrow.Author.Needs.{needs}
 use Rattle.places.proofs.refused.Statement.{statement}
 use Rattle.places.proofs.refused.Tie as tie

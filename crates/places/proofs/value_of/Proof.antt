@@ -1,4 +1,3 @@
-use borrow.Author.Needs.{needs}
 use borrow.Author.Tests.{eq-eqb, ne-eqb}
 use Rattle.meaning.specs.Registers.{writtenValue}
 use Rattle.places.proofs.value_of.Statement.{statement}

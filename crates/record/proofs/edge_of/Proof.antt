@@ -1,4 +1,3 @@
-use mathlib.Core.Bool.{_||_}
 use Rattle.meaning.specs.Cell.{get, edgeOf, sgi}
 use borrow.Author.Needs.{needs}
 use Rattle.record.proofs.edge_of.Statement.{statement}

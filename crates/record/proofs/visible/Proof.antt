@@ -1,4 +1,3 @@
-use mathlib.Core.Path.{sym}
 use Rattle.meaning.specs.Cell.{decode}
 use Rattle.meaning.specs.Rule.{visible, reaches}
 use borrow.Author.Needs.{needs}

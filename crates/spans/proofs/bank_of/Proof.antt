@@ -1,4 +1,3 @@
-use native.Mathlib.Omega.{arith}
 use Rattle.spans.proofs.Numbers.{bits-pos}
 use borrow.Author.Needs.{needs}
 use Rattle.spans.proofs.bank_of.Statement.{statement}

@@ -1,7 +1,7 @@
 use Prim.Native.Nat.{_+_, _*_, _-_, min}
 use Rattle.types.specs.declared.Frame.the-variants.{Dist}
 use Rattle.meaning.specs.Registers.{perWord}
-use mathlib.Core.Path.{_≡_, sym, ap, _∙_}
+use mathlib.Core.Path.{_≡_}
 use native.Mathlib.Omega.{arith}
 use borrow.Author.Tests.{lt-ltb, le-ltb}
 use Rattle.spans.specs.Span.{startOf, endOf}

@@ -1,6 +1,4 @@
-use mathlib.Core.Path.{sym, ap, _∙_}
 use native.Mathlib.Omega.{arith}
-use Prim.Native.Nat.{ℕ, _/_, _%_, _*_, _^_, _+_, _<_}
 use Rattle.lists.specs.Word.{bitAt, digitAt}
 use Rattle.words.specs.Part.{storedAt}
 use Rattle.words.proofs.Digits.{digit-fits, bits-small, modulus, modulus-pos}

@@ -1,4 +1,4 @@
-use mathlib.Core.Path.{_≡_, refl, sym, ap, _∙_}
+use mathlib.Core.Path.{refl, sym, ap, _∙_}
 use mathlib.Core.Bool.{Bool, false, Bool·beq}
 use Rattle.types.specs.declared.Bit.the-variants.{Edge, Latch, MessageLevel}
 use Rattle.meaning.specs.Cell.{Cell, get, put, decode, encode}

@@ -1,4 +1,3 @@
-use native.Mathlib.Omega.{arith}
 use borrow.Author.Needs.{needs}
 use Rattle.engine.proofs.word.part.Statement.{statement}
 use Rattle.engine.proofs.word.part.Tie as tie

@@ -1,11 +1,10 @@
-use mathlib.Core.Path.{sym, ap, _∙_}
+use mathlib.Core.Path.{ap}
 use denote.Ref.{now}
 use lib.ListN.{length}
 use Rattle.meaning.specs.Layout.{lent}
 use Rattle.spans.specs.Span.{frameOf}
 use Rattle.engine.proofs.Facts.{presence-fits}
 use Rattle.engine.proofs.Uses.{word-fits, read-part, span-inside, part-length, records-same}
-use borrow.Author.Needs.{needs}
 use Rattle.engine.proofs.word.read_word.Statement.{statement}
 use Rattle.engine.proofs.word.read_word.Tie as tie
 

@@ -1,6 +1,5 @@
 use mathlib.Core.Path.{_∙_, ap, sym}
 use native.Mathlib.Omega.{arith}
-use Prim.Native.Nat.{ℕ}
 use Rattle.script.specs.declared.Progress.{Progress}
 use Rattle.script.specs.Run.{keeping}
 use Rattle.lines.proofs.Reaching.{reached-last, reached-more}

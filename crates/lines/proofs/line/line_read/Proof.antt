@@ -1,6 +1,5 @@
-use mathlib.Core.Path.{_∙_, ap, sym}
+use mathlib.Core.Path.{_∙_, sym}
 use native.Mathlib.Omega.{arith}
-use Rattle.script.specs.Run.{judged}
 use Rattle.lines.proofs.Reaching.{reached-none, reached-bad, line-is-over, line-is-full, line-is}
 use borrow.Author.Needs.{needs}
 use Rattle.lines.proofs.line.line_read.Statement.{statement}

@@ -1,4 +1,3 @@
-use borrow.Author.Needs.{needs}
 use mathlib.Core.Path.{refl}
 use Rattle.script.specs.Run.{stopped}
 use Rattle.lines.proofs.line.stop.Statement.{statement}

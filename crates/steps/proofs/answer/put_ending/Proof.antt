@@ -1,5 +1,4 @@
 use mathlib.Core.Path.{_∙_, sym}
-use Rattle.text.specs.Text.{bytes}
 use denote.Ref.{now}
 use Rattle.text.proofs.Puts.{put-none}
 use Rattle.script.proofs.Cases.{ending-over, ending-rest, ending-inside, ending-end}

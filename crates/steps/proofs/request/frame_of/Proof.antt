@@ -1,6 +1,4 @@
-use borrow.Author.Needs.{needs}
 use borrow.Author.Tests.{eq-eqb, ne-eqb}
-use Rattle.script.specs.Run.{frameOf}
 use Rattle.steps.proofs.request.frame_of.Statement.{statement}
 use Rattle.steps.proofs.request.frame_of.Tie as tie
 

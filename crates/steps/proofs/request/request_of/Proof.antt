@@ -1,4 +1,3 @@
-use mathlib.Core.Path.{refl}
 use Rattle.script.specs.Run.{requestOf}
 use borrow.Author.Needs.{needs}
 use Rattle.steps.proofs.request.request_of.Statement.{statement}

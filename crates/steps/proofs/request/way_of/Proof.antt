@@ -1,6 +1,4 @@
-use borrow.Author.Needs.{needs}
 use borrow.Author.Tests.{eq-eqb, ne-eqb}
-use Rattle.script.specs.Run.{wayOf}
 use Rattle.steps.proofs.request.way_of.Statement.{statement}
 use Rattle.steps.proofs.request.way_of.Tie as tie
 

@@ -1,10 +1,7 @@
 use borrow.Author.Needs.{needs}
-use mathlib.Core.Path.{_≡_, sym, _∙_, ap}
-use mathlib.Core.List.{List, [], _∷_, _++_}
 use native.Mathlib.Omega.{arith}
 use denote.Ref.{now}
 use Rattle.text.specs.Number.{digitsOf}
-use Rattle.text.specs.Sheet.{Put}
 use Rattle.text.proofs.Numbers.{length-digits, digits-one, digits-more}
 use Rattle.text.proofs.Puts.{put-none, put-both}
 use Prim.Native.Nat.{ℕ, _<_, _-_, _/_}

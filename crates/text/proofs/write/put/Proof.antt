@@ -1,10 +1,9 @@
 use borrow.Author.Needs.{needs}
-use mathlib.Core.Path.{_≡_, refl, sym, _∙_, ap}
-use mathlib.Core.List.{List}
-use Prim.Native.Nat.{ℕ, _≤_, _-_, _+_}
+use mathlib.Core.Path.{_≡_, refl}
+use Prim.Native.Nat.{_≤_, _-_}
 use native.Mathlib.Numerals.{add-one}
 use native.Mathlib.Omega.{arith}
-use lib.ListN.{length, drop, set, getD, length-set}
+use lib.ListN.{length, set, length-set}
 use lib.Seq.{paste, paste-zero, paste-suc}
 use denote.Ref.{now}
 use Rattle.text.proofs.Puts.{put-paste}

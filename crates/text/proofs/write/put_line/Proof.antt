@@ -1,4 +1,3 @@
-use mathlib.Core.Path.{_≡_, sym, _∙_, ap}
 use native.Mathlib.Omega.{arith}
 use Rattle.text.specs.Number.{numbered, decimal}
 use Rattle.text.proofs.Numbers.{length-digits}
