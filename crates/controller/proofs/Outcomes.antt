@@ -26,7 +26,7 @@ use Rattle.meaning.proofs.Effects.{reset-zero}
 use Rattle.engine.specs.Stepped.{zeroed, Ruled, Stepped}
 use Rattle.engine.proofs.Ruled.{Bytes}
 use Rattle.engine.proofs.Named.{quiet}
-use Rattle.places.proofs.Ways.{Accessed}
+use Rattle.places.proofs.Ways.{Accessed, same-rule}
 
 -- refusal 1
 pub ill : (s : Shape) (q : Step) (t : Tables) → wellFormed s t ≡ false → _≡_ {A = Outcome} (record { answered = Refused refusal.Shape; tables = t }) (stepped s q t)
@@ -46,11 +46,7 @@ stepped-by : (s : Shape) (q : Step) (t : Tables) (a : Answer) (d r : List ℕ) �
     → ((m : ℕ) (c : Cell) → act s q m c ≡ rule m c) → Ruled s t rule d r → Stepped s q t a d r
 unfolding recordsAfter
 stepped-by s q t a d r h rule same k =
-    record {
-      answered = h;
-      dist-after = k .dist-ruled ∙ ap (λ (f : ℕ → Cell → Cell). ruled s t f Dist) (sym (λ i m c. same m c i));
-      redist-after = k .redist-ruled ∙ ap (λ (f : ℕ → Cell → Cell). ruled s t f Redist) (sym (λ i m c. same m c i));
-    }
+    let j = same-rule s t d r rule (act s q) same k in record { answered = h; dist-after = j .dist-ruled; redist-after = j .redist-ruled }
 
 module _ (s : Shape) (t : Tables) (bd : Bytes (t .dist)) (br : Bytes (t .redist)) (a : Access) where
   pub access-refused : (r : Refusal) → placeOf (a .frame) (a .width) (a .offset) ≡ decoded.Refused r → Stepped s (access a) t (Refused r) (t .dist) (t .redist)

@@ -23,6 +23,15 @@ use Rattle.engine.proofs.Named.{quiet}
 abbrev pub Accessed : Shape → Tables → Access → Place → Answer → List ℕ → List ℕ → Type 0
 Accessed s t a p x d r = (x ≡ accessAnswer s a (decoded.At p) (cellOf s t)) × Ruled s t (accessed s a (decoded.At p)) d r
 
+-- what follows a rule follows every rule that is the same
+pub same-rule : (s : Shape) (t : Tables) (d r : List ℕ) (rule other : ℕ → Cell → Cell) → ((m : ℕ) (c : Cell) → other m c ≡ rule m c) → Ruled s t rule d r
+    → Ruled s t other d r
+same-rule s t d r rule other same k =
+    record {
+      dist-ruled = k .dist-ruled ∙ ap (λ (f : ℕ → Cell → Cell). ruled s t f Dist) (sym (λ i m c. same m c i));
+      redist-ruled = k .redist-ruled ∙ ap (λ (f : ℕ → Cell → Cell). ruled s t f Redist) (sym (λ i m c. same m c i));
+    }
+
 module _ (s : Shape) (t : Tables) (a : Access) (p : Place) where
   -- the rule of an access, once its way is known
   by-way : (way : Way) → a .way ≡ way → (m : ℕ) (c : Cell)
@@ -33,18 +42,10 @@ module _ (s : Shape) (t : Tables) (a : Access) (p : Place) where
       → accessAnswer s a (decoded.At p) (cellOf s t) ≡ elim way as (λ z. Answer) [ Read ↦ Done (read s (a .side) p (cellOf s t)) | Write ↦ Done 0 ]
   said way w = ap (λ (x : Way). elim x as (λ z. Answer) [ Read ↦ Done (read s (a .side) p (cellOf s t)) | Write ↦ Done 0 ]) w
 
-  same-rule : {d r : List ℕ} (rule : ℕ → Cell → Cell) → ((m : ℕ) (c : Cell) → accessed s a (decoded.At p) m c ≡ rule m c) → Ruled s t rule d r
-      → Ruled s t (accessed s a (decoded.At p)) d r
-  same-rule rule same k =
-      record {
-        dist-ruled = k .dist-ruled ∙ ap (λ (f : ℕ → Cell → Cell). ruled s t f Dist) (sym (λ i m c. same m c i));
-        redist-ruled = k .redist-ruled ∙ ap (λ (f : ℕ → Cell → Cell). ruled s t f Redist) (sym (λ i m c. same m c i));
-      }
-
   pub read-done : Bytes (t .dist) → Bytes (t .redist) → (v : ℕ) → a .way ≡ Read → v ≡ read s (a .side) p (cellOf s t)
       → Accessed s t a p (Done v) (t .dist) (t .redist)
-  read-done bd br v w e = (ap Done e ∙ sym (said Read w), same-rule (λ m c. c) (by-way Read w) (quiet s t (λ m c. c) bd br (λ m byte. refl)))
+  read-done bd br v w e = (ap Done e ∙ sym (said Read w), same-rule s t _ _ (λ m c. c) (accessed s a (decoded.At p)) (by-way Read w) (quiet s t (λ m c. c) bd br (λ m byte. refl)))
 
   pub write-done : (d r : List ℕ) → a .way ≡ Write → Ruled s t (written s (a .side) p (writtenValue (a .width) (a .value))) d r
       → Accessed s t a p (Done 0) d r
-  write-done d r w k = (sym (said Write w), same-rule (written s (a .side) p (writtenValue (a .width) (a .value))) (by-way Write w) k)
+  write-done d r w k = (sym (said Write w), same-rule s t d r (written s (a .side) p (writtenValue (a .width) (a .value))) (accessed s a (decoded.At p)) (by-way Write w) k)
