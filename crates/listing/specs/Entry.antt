@@ -1,4 +1,4 @@
--- What the decoder makes of a map code. Proved to be `listed` at every word of the first 4 KiB, in both frames.
+-- What a map code stands for at an offset. Proved to be `listed` at every word of the first 4 KiB, in both frames.
 use mathlib.Core.Bool.{Bool, true, false}
 use Prim.Native.Nat.{ℕ, _-_, _/_}
 use lib.Dec.{eqb, ltb}
