@@ -34,7 +34,13 @@ pub fn access(
 ) -> Answer
     ensures { λ a. ⌜ record { answered = a; tables = lent (now (dist .exit)) (now (redist .exit)) (now («dist_presence» .entry)) (now («redist_presence» .entry)) } ≡ stepped shape (step.access request) (lent (now (dist .entry)) (now (redist .entry)) (now («dist_presence» .entry)) (now («redist_presence» .entry))) ⌝ }
 {
-    if !well_formed(shape, dist, redist, dist_presence, redist_presence) {
+    if !well_formed(
+        shape,
+        dist.len(),
+        redist.len(),
+        dist_presence.len(),
+        redist_presence.len(),
+    ) {
         return Answer::Refused(Refusal::Shape);
     }
     let frame = request.frame;
@@ -65,7 +71,13 @@ fn judged(
 ) -> Answer
     ensures { λ a. ⌜ record { answered = a; tables = lent (now (dist .exit)) (now (redist .exit)) (now («dist_presence» .entry)) (now («redist_presence» .entry)) } ≡ stepped shape (stepOf event intid) (lent (now (dist .entry)) (now (redist .entry)) (now («dist_presence» .entry)) (now («redist_presence» .entry))) ⌝ }
 {
-    if !well_formed(shape, dist, redist, dist_presence, redist_presence) {
+    if !well_formed(
+        shape,
+        dist.len(),
+        redist.len(),
+        dist_presence.len(),
+        redist_presence.len(),
+    ) {
         return Answer::Refused(Refusal::Shape);
     }
     happen(
@@ -158,7 +170,13 @@ pub fn reset(
 ) -> Answer
     ensures { λ a. ⌜ record { answered = a; tables = lent (now (dist .exit)) (now (redist .exit)) (now («dist_presence» .entry)) (now («redist_presence» .entry)) } ≡ stepped shape step.reset (lent (now (dist .entry)) (now (redist .entry)) (now («dist_presence» .entry)) (now («redist_presence» .entry))) ⌝ }
 {
-    if !well_formed(shape, dist, redist, dist_presence, redist_presence) {
+    if !well_formed(
+        shape,
+        dist.len(),
+        redist.len(),
+        dist_presence.len(),
+        redist_presence.len(),
+    ) {
         return Answer::Refused(Refusal::Shape);
     }
     clear(dist);

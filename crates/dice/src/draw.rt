@@ -1,5 +1,6 @@
 // What a step asks for. Each step takes four numbers of the stream, whatever it is.
 use crate::random::next;
+use crate::random::pick;
 use crate::random::word;
 use crate::table::Table;
 use crate::table::home_of;
@@ -43,7 +44,7 @@ pub fn four_of(x: u64) -> Numbers {
 
 // What is off its limit for this step alone: 0 nothing, 1 to 8 a table's length, 9 to 14 a shape number.
 pub fn off_of(n: Numbers) -> u32 {
-    let off = word(n.e >> 40) % 512;
+    let off = pick(n.e, 40, 512);
     if off < 14 { off + 1 } else { 0 }
 }
 
@@ -64,7 +65,7 @@ fn access(n: Numbers, class: u32, frame: u32, width: u32, offset: u32, value: u3
     Request {
         class,
         side: side_of(n),
-        way: if word(n.a >> 20) % 8 < 3 { 0 } else { 1 },
+        way: if pick(n.a, 20, 8) < 3 { 0 } else { 1 },
         frame,
         width,
         offset,
@@ -74,43 +75,43 @@ fn access(n: Numbers, class: u32, frame: u32, width: u32, offset: u32, value: u3
 }
 
 fn side_of(n: Numbers) -> u32 {
-    word(n.a >> 16) % 2
+    pick(n.a, 16, 2)
 }
 
 // An INTID: the home's (5 of 8), one of its word, an edge, or one near the shape's limits.
 fn named(shape: Shape, home: u32, n: Numbers) -> u32 {
-    let which = word(n.c >> 4) % 8;
+    let which = pick(n.c, 4, 8);
     if which < 5 {
         return intid_of(home);
     }
     if which == 5 {
-        return intid_of(home / 32 % 128 * 32 + word(n.b >> 24) % 32);
+        return intid_of(home / 32 % 128 * 32 + pick(n.b, 24, 32));
     }
     if which == 6 {
         return edge(word(n.b >> 24));
     }
-    near(shape, word(n.b >> 32) % 8, word(n.e >> 16))
+    near(shape, pick(n.b, 32, 8), word(n.e >> 16))
 }
 
 // SETSPI and CLRSPI, with anything in the value's bits above 12.
 fn message(intid: u32, n: Numbers) -> Request {
-    let which = word(n.b >> 4) % 4;
-    let width = if word(n.b >> 8) % 2 == 0 { 2 } else { 4 };
+    let which = pick(n.b, 4, 4);
+    let width = if pick(n.b, 8, 2) == 0 { 2 } else { 4 };
     let value = (intid % 8192) | (word(n.c >> 8) & 0xFFFFE000);
     access(n, 28 + which, 0, width, 0x40 + 8 * which, value)
 }
 
 // Any width at any offset of any frame; most are refused.
 fn anywhere(n: Numbers) -> Request {
-    let frame = word(n.b >> 4) % 2;
-    let offset = any_offset(word(n.b >> 8) % 32, word(n.c >> 8));
-    let width = any_width(word(n.b >> 16) % 16, word(n.e >> 8));
+    let frame = pick(n.b, 4, 2);
+    let offset = any_offset(pick(n.b, 8, 32), word(n.c >> 8));
+    let width = any_width(pick(n.b, 16, 16), word(n.e >> 8));
     access(n, 32, frame, width, offset, word(n.e >> 24))
 }
 
 // Another word, with the home's bit; word 3 of the Redistributor is not listed.
 fn wander(n: Numbers, home: u32) -> u32 {
-    let column = word(n.b >> 16) % 3;
+    let column = pick(n.b, 16, 3);
     let any = word(n.b >> 20);
     let at = if column == 2 { any % 4 } else { any % 32 };
     column * 1024 + at % 32 * 32 + home % 32
@@ -119,7 +120,7 @@ fn wander(n: Numbers, home: u32) -> u32 {
 // A value that mostly has the home's bit.
 fn written(bit: u32, n: Numbers) -> u32 {
     let any = word(n.c >> 8);
-    let which = word(n.c >> 44) % 8;
+    let which = pick(n.c, 44, 8);
     if which == 0 {
         return bit;
     }
@@ -142,14 +143,14 @@ fn bit_of(at: u32, family: u32) -> u32 {
 // A word of a family: the home's, or (1 in 16) any; 1 in 64 at width 2. Modifier bits of 0 make the homes Non-secure more often
 // than not.
 fn family(home: u32, n: Numbers) -> Request {
-    let which = word(n.b >> 4) % 9;
-    let at = if word(n.b >> 8) % 16 == 0 {
+    let which = pick(n.b, 4, 9);
+    let at = if pick(n.b, 8, 16) == 0 {
         wander(n, home)
     } else {
         home
     };
     let column = at / 1024 % 3;
-    let width = if word(n.b >> 40) % 64 == 0 { 2 } else { 4 };
+    let width = if pick(n.b, 40, 64) == 0 { 2 } else { 4 };
     let value = written(bit_of(at, which), n);
     access(
         n,
@@ -164,7 +165,7 @@ fn family(home: u32, n: Numbers) -> Request {
 // A wire, an activation, a deactivation or a reset.
 fn happening(kind: u32, n: Numbers, intid: u32) -> Request {
     if kind < 8 {
-        return event(33, 0, word(n.e >> 8) % 2, intid);
+        return event(33, 0, pick(n.e, 8, 2), intid);
     }
     if kind < 14 {
         return event(34, side_of(n), 0, intid);
@@ -189,13 +190,13 @@ fn chosen(kind: u32, shape: Shape, home: u32, n: Numbers) -> Request {
     if kind >= 20 {
         return message(intid, n);
     }
-    if (kind == 19) & (word(n.a >> 24) % 32 != 0) {
+    if (kind == 19) & (pick(n.a, 24, 32) != 0) {
         return access(n, 27, 0, 4, 4, word(n.c >> 8));
     }
     happening(kind, n, intid)
 }
 
 pub fn drawn(t: Table, n: Numbers) -> Request {
-    let home = home_of(t, word(n.a >> 4) % 4);
-    chosen(word(n.a >> 8) % 64, t.shape, home, n)
+    let home = home_of(t, pick(n.a, 4, 4));
+    chosen(pick(n.a, 8, 64), t.shape, home, n)
 }

@@ -1,5 +1,7 @@
 // Numbers that look drawn and are the same on every run, for drawing steps and for mixing digests.
 
+ghost use Prim.Native.Nat.{_<_};
+
 // Marsaglia's xorshift of 64 bits: a bijection that never leaves 0 or comes to it.
 pub fn next(x: u64) -> u64 {
     let a = x ^ (x << 13);
@@ -10,6 +12,15 @@ pub fn next(x: u64) -> u64 {
 // The low 32 bits.
 pub fn word(x: u64) -> u32 {
     (x % 4294967296) as u32
+}
+
+// A number below `of`: the bits of x from bit `from` up, cut to size.
+pub fn pick(x: u64, from: u32, of: u32) -> u32
+    requires { ⌜ from < 64 ⌝ }
+    requires { ⌜ 0 < of ⌝ }
+    ensures { λ r. ⌜ r < of ⌝ }
+{
+    word(x >> from) % of
 }
 
 // Where the draws of table n begin: never 0, and another place for each of the first 2^32 numbers.

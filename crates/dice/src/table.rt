@@ -1,6 +1,7 @@
 // A starting table: its shape, and the four homes that its steps come back to. A home is a register word and a bit of it, kept as
 // 1024 · column + 32 · word + bit; column 0 is the Distributor's words, 1 its extended ones, 2 the Redistributor's.
 use crate::random::next;
+use crate::random::pick;
 use crate::random::start;
 use crate::random::word;
 use types::Shape;
@@ -20,7 +21,7 @@ pub struct Table {
 
 // A shape number: often the largest, sometimes 0 or the bench shape's.
 fn limit(x: u64, most: u32, bench: u32) -> u32 {
-    let which = word(x >> 8) % 8;
+    let which = pick(x, 8, 8);
     if which < 2 {
         return most;
     }
@@ -46,7 +47,7 @@ fn near_limit(near: u32, any: u32, last: u32) -> u32 {
 }
 
 fn column_of(shape: Shape, x: u64, near: u32) -> u32 {
-    let which = word(x >> 8) % 8;
+    let which = pick(x, 8, 8);
     if which < 3 {
         return if (shape.lines > 0) | (near == 0) {
             0
@@ -78,17 +79,17 @@ fn word_of(shape: Shape, column: u32, near: u32, any: u32) -> u32 {
 
 // A home: in range more often than not, and often at a limit of the shape.
 fn home(shape: Shape, x: u64) -> u32 {
-    let near = word(x >> 12) % 8;
+    let near = pick(x, 12, 8);
     let column = column_of(shape, x, near);
     let n = word_of(shape, column, near, word(x >> 16)) % 32;
-    let bit = word(x >> 40) % 32;
+    let bit = pick(x, 40, 32);
     let kept = if column < 2 { column } else { 2 };
     kept % 3 * 1024 + 32 * n + bit
 }
 
 fn shape_of(a: u64, b: u64, c: u64) -> Shape {
-    let mbis = word(c >> 16) % 4 != 0;
-    Shape::new(limit(a, 31, 9), limit(b, 32, 4), word(c >> 8) % 3, mbis)
+    let mbis = pick(c, 16, 4) != 0;
+    Shape::new(limit(a, 31, 9), limit(b, 32, 4), pick(c, 8, 3), mbis)
 }
 
 pub fn begun(number: u64) -> Table {
@@ -106,8 +107,8 @@ pub fn begun(number: u64) -> Table {
         home1: home(shape, h1),
         home2: home(shape, h2),
         home3: home(shape, h3),
-        records: word(c >> 32) % 4,
-        presence: word(c >> 24) % 4,
+        records: pick(c, 32, 4),
+        presence: pick(c, 24, 4),
         x: h3,
     }
 }

@@ -9,6 +9,7 @@ use types::Side;
 
 // Words of presence: every interrupt, and every one but the first.
 const ALL: u32 = 4294967295;
+
 const FEWER: u32 = 4294967294;
 
 fn wired(present: u32, shape: Shape, m: u32) -> Answer {
@@ -56,12 +57,18 @@ fn say_read(frame: u32, width: u32, offset: u32) {
 // Reads of the Non-secure side.
 pub fn dist(width: u32, offset: u32) {
     say_read(0, width, offset);
-    answer(accessed(ALL, Access::read(Frame::Dist, Side::NonSecure, width, offset)));
+    answer(accessed(
+        ALL,
+        Access::read(Frame::Dist, Side::NonSecure, width, offset),
+    ));
 }
 
 pub fn redist(width: u32, offset: u32) {
     say_read(1, width, offset);
-    answer(accessed(ALL, Access::read(Frame::Redist, Side::NonSecure, width, offset)));
+    answer(accessed(
+        ALL,
+        Access::read(Frame::Redist, Side::NonSecure, width, offset),
+    ));
 }
 
 // ICFGR0, the first interrupt of each word missing.

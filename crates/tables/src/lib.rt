@@ -1,6 +1,7 @@
-// Refusal 1: a table length or a shape number off its limit.
+// Refusal 1: a table length or a shape number off its limit. The tables are judged by their lengths alone, and so are not lent.
 ghost use mathlib.Core.Path.{_≡_};
-ghost use Rattle.meaning.specs.Layout.{shapeFits, lengthsFit, wellFormed};
+ghost use lib.ListN.{length};
+ghost use Rattle.meaning.specs.Layout.{Tables, shapeFits, lengthsFit, wellFormed};
 use types::Shape;
 
 pub fn shape_fits(shape: Shape) -> bool
@@ -9,27 +10,21 @@ pub fn shape_fits(shape: Shape) -> bool
     (shape.lines <= 31) & ((shape.espi <= 32) & (shape.eppi <= 2))
 }
 
-pub fn lengths_fit(
-    dist: &[u8],
-    redist: &[u8],
-    dist_presence: &[u32],
-    redist_presence: &[u32],
-) -> bool
-    ensures { λ r. ⌜ r ≡ lengthsFit (record { dist = now (dist .entry); redist = now (redist .entry); distPresence = now («dist_presence» .entry); redistPresence = now («redist_presence» .entry) }) ⌝ }
+pub fn lengths_fit(dist: usize, redist: usize, dist_presence: usize, redist_presence: usize) -> bool
+    ensures { λ r. ⌜ ((t : Tables) → length (t .dist) ≡ dist → length (t .redist) ≡ redist → length (t .distPresence) ≡ «dist_presence» → length (t .redistPresence) ≡ «redist_presence» → r ≡ lengthsFit t) ⌝ }
 {
-    (dist.len() == 2012)
-        & ((redist.len() == 96) & ((dist_presence.len() == 63) & (redist_presence.len() == 3)))
+    (dist == 2012) & ((redist == 96) & ((dist_presence == 63) & (redist_presence == 3)))
 }
 
-// Whether refusal 1 does not apply.
+// Whether refusal 1 does not apply to tables of these lengths.
 pub fn well_formed(
     shape: Shape,
-    dist: &[u8],
-    redist: &[u8],
-    dist_presence: &[u32],
-    redist_presence: &[u32],
+    dist: usize,
+    redist: usize,
+    dist_presence: usize,
+    redist_presence: usize,
 ) -> bool
-    ensures { λ r. ⌜ r ≡ wellFormed shape (record { dist = now (dist .entry); redist = now (redist .entry); distPresence = now («dist_presence» .entry); redistPresence = now («redist_presence» .entry) }) ⌝ }
+    ensures { λ r. ⌜ ((t : Tables) → length (t .dist) ≡ dist → length (t .redist) ≡ redist → length (t .distPresence) ≡ «dist_presence» → length (t .redistPresence) ≡ «redist_presence» → r ≡ wellFormed shape t) ⌝ }
 {
     shape_fits(shape) & lengths_fit(dist, redist, dist_presence, redist_presence)
 }

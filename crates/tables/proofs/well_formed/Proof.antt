@@ -11,7 +11,7 @@ lengths-fit-requires c κs = search needs
 
 returns : tie.Need-returns
 unfolding wellFormed
-returns c = rw (c .before .shape-fits .ensures, c .lengths-fit .ensures)
+returns c = λ t d r dp rp. rw (c .before .shape-fits .ensures, c .lengths-fit .ensures t d r dp rp)
 
 pub well-formed-spec : {M : Type 1} → statement M
 well-formed-spec = tie.close (tie.spec shape-fits-requires lengths-fit-requires returns)
