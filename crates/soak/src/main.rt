@@ -37,11 +37,15 @@ struct Run {
     last: u64,
 }
 
-fn begin(d: &mut [u8], r: &mut [u8], dp: &mut [u32], rp: &mut [u32], t: Table) -> Run {
+// Fills the four tables, and gives the stream after that.
+fn filled(d: &mut [u8], r: &mut [u8], dp: &mut [u32], rp: &mut [u32], t: Table) -> u64 {
     let a = fill_records(d, t.records, t.x);
     let b = fill_records(r, t.records, a);
     let c = fill_presence(dp, t.presence, b);
-    let x = fill_presence(rp, t.presence, c);
+    fill_presence(rp, t.presence, c)
+}
+
+fn begun(x: u64, last: u64) -> Run {
     Run {
         x,
         number: 0,
@@ -50,36 +54,32 @@ fn begin(d: &mut [u8], r: &mut [u8], dp: &mut [u32], rp: &mut [u32], t: Table) -
         changed: 0,
         answers: 1,
         tables: 1,
-        last: digest(d, r, dp, rp),
+        last,
     }
 }
 
-fn answered(run: Run, x: u64, status: u32, value: u32) -> Run {
+fn answered(before: Run, x: u64, status: u32, value: u32) -> Run {
+    let mut run = before;
+    run.x = x;
+    run.number = wrapping_add_u64(run.number, 1);
+    if status == 0 {
+        run.done = wrapping_add_u64(run.done, 1);
+    } else {
+        run.refused = wrapping_add_u64(run.refused, 1);
+    }
     let said = ((status as u64) << 32) | (value as u64);
-    let good = status == 0;
-    Run {
-        x,
-        number: wrapping_add_u64(run.number, 1),
-        done: wrapping_add_u64(run.done, if good { 1 } else { 0 }),
-        refused: wrapping_add_u64(run.refused, if good { 0 } else { 1 }),
-        changed: run.changed,
-        answers: next(run.answers ^ said),
-        tables: run.tables,
-        last: run.last,
-    }
+    run.answers = next(run.answers ^ said);
+    run
 }
 
-fn digested(run: Run, now: u64) -> Run {
-    Run {
-        x: run.x,
-        number: run.number,
-        done: run.done,
-        refused: run.refused,
-        changed: wrapping_add_u64(run.changed, if now == run.last { 0 } else { 1 }),
-        answers: run.answers,
-        tables: next(run.tables ^ now),
-        last: now,
+fn digested(before: Run, now: u64) -> Run {
+    let mut run = before;
+    if now != run.last {
+        run.changed = wrapping_add_u64(run.changed, 1);
     }
+    run.tables = next(run.tables ^ now);
+    run.last = now;
+    run
 }
 
 // One step: drawn, taken and counted; shown where that is asked for.
@@ -136,9 +136,9 @@ fn steps(
     counts: &mut [u64],
     plan: plan::Plan,
     t: Table,
-    first: Run,
+    x: u64,
 ) -> Run {
-    let mut run = first;
+    let mut run = begun(x, digest(d, r, dp, rp));
     let mut left = plan.steps;
     while left > 0 {
         run = one(d, r, dp, rp, counts, plan, t, run);
@@ -163,46 +163,31 @@ fn print_run(run: Run) {
     line_end();
 }
 
-fn one_table(
-    d: &mut [u8],
-    r: &mut [u8],
-    dp: &mut [u32],
-    rp: &mut [u32],
-    counts: &mut [u64],
-    plan: plan::Plan,
-    number: u64,
-) {
+fn one_table(counts: &mut [u64], plan: plan::Plan, number: u64) {
     let t = dice::table::begun(number);
-    let first = begin(d, r, dp, rp, t);
-    let run = steps(d, r, dp, rp, counts, plan, t, first);
+    let mut d = [0u8; 2013];
+    let mut r = [0u8; 97];
+    let mut dp = [0u32; 64];
+    let mut rp = [0u32; 4];
+    let x = filled(&mut d, &mut r, &mut dp, &mut rp, t);
+    let run = steps(&mut d, &mut r, &dp, &rp, counts, plan, t, x);
     field(b"table=", number);
     print_shape(t.shape);
     print_run(run);
 }
 
-fn tables(
-    d: &mut [u8],
-    r: &mut [u8],
-    dp: &mut [u32],
-    rp: &mut [u32],
-    counts: &mut [u64],
-    plan: plan::Plan,
-) {
+fn tables(counts: &mut [u64], plan: plan::Plan) {
     let mut number = plan.first;
     let mut left = plan.tables;
     while left > 0 {
-        one_table(d, r, dp, rp, counts, plan, number);
+        one_table(counts, plan, number);
         number = wrapping_add_u64(number, 1);
         left -= 1;
     }
 }
 
 fn main() {
-    let mut d = [0u8; 2013];
-    let mut r = [0u8; 97];
-    let mut dp = [0u32; 64];
-    let mut rp = [0u32; 4];
     let mut counts = [0u64; 160];
-    tables(&mut d, &mut r, &mut dp, &mut rp, &mut counts, plan::read());
+    tables(&mut counts, plan::read());
     print_counts(&counts);
 }

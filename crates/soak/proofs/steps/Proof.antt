@@ -5,10 +5,16 @@ use Rattle.soak.proofs.steps.Statement.{statement}
 use Rattle.soak.proofs.steps.Tie as tie
 
 abbrev Inv-loop : tie.InvT-loop
-Inv-loop d₀ r₀ dp rp counts₀ plan t run₀ left₀ d r counts run left = (length d ≡ length d₀) × ((length r ≡ length r₀) × (length counts ≡ length counts₀))
+Inv-loop d₀ r₀ dp rp counts₀ plan t x run₀ left₀ d r counts run left = (length d ≡ length d₀) × ((length r ≡ length r₀) × (length counts ≡ length counts₀))
 
 abbrev μ-loop : tie.MeasureT-loop
-μ-loop d₀ r₀ dp rp counts₀ plan t run₀ left₀ d r counts run left = left
+μ-loop d₀ r₀ dp rp counts₀ plan t x run₀ left₀ d r counts run left = left
+
+digest-requires : tie.Need-digest-requires Inv-loop μ-loop
+digest-requires c κs = search needs
+
+begun-requires : tie.Need-begun-requires Inv-loop μ-loop
+begun-requires c κs = search needs
 
 loop-holds : tie.Need-loop-holds Inv-loop μ-loop
 loop-holds c = search needs
@@ -43,6 +49,8 @@ steps-spec =
     (tie.spec
     Inv-loop
     μ-loop
+    digest-requires
+    begun-requires
     loop-holds
     one-requires
     sub-left

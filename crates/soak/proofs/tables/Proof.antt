@@ -5,10 +5,10 @@ use Rattle.soak.proofs.tables.Statement.{statement}
 use Rattle.soak.proofs.tables.Tie as tie
 
 abbrev Inv-loop : tie.InvT-loop
-Inv-loop d₀ r₀ dp₀ rp₀ counts₀ plan number₀ left₀ d r dp rp counts number left = (length d ≡ length d₀) × ((length r ≡ length r₀) × ((length dp ≡ length dp₀) × ((length rp ≡ length rp₀) × (length counts ≡ length counts₀))))
+Inv-loop counts₀ plan number₀ left₀ counts number left = length counts ≡ length counts₀
 
 abbrev μ-loop : tie.MeasureT-loop
-μ-loop d₀ r₀ dp₀ rp₀ counts₀ plan number₀ left₀ d r dp rp counts number left = left
+μ-loop counts₀ plan number₀ left₀ counts number left = left
 
 loop-holds : tie.Need-loop-holds Inv-loop μ-loop
 loop-holds c = search needs
@@ -31,18 +31,6 @@ loop-again c = search needs
 same-length : tie.Need-same-length Inv-loop μ-loop
 same-length c = search needs
 
-same-length-2 : tie.Need-same-length-2 Inv-loop μ-loop
-same-length-2 c = search needs
-
-same-length-3 : tie.Need-same-length-3 Inv-loop μ-loop
-same-length-3 c = search needs
-
-same-length-4 : tie.Need-same-length-4 Inv-loop μ-loop
-same-length-4 c = search needs
-
-same-length-5 : tie.Need-same-length-5 Inv-loop μ-loop
-same-length-5 c = search needs
-
 returns : tie.Need-returns Inv-loop μ-loop
 returns c = search needs
 
@@ -59,8 +47,4 @@ tables-spec =
     loop-less
     loop-again
     same-length
-    same-length-2
-    same-length-3
-    same-length-4
-    same-length-5
     returns)
