@@ -1,4 +1,3 @@
-// What a long random run draws: the stream of numbers, a starting table, and each step (docs/SOAK.md).
-pub mod draw;
+// What a long random run starts from: the stream of numbers, and a starting table (docs/SOAK.md).
 pub mod random;
 pub mod table;

@@ -2,7 +2,7 @@
 // steps, four places a class: by side, and by read or write.
 use crate::print::field;
 use crate::print::line_end;
-use dice::draw::Request;
+use draws::Request;
 use std::num::wrapping_add_u64;
 
 fn more(counts: &mut [u64], at: u32) {

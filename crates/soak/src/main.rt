@@ -5,10 +5,10 @@ use answers::status_of;
 use answers::value_of;
 use counts::count;
 use counts::print_counts;
-use dice::draw::four_of;
-use dice::draw::off_of;
 use dice::random::next;
 use dice::table::Table;
+use draws::four_of;
+use draws::off_of;
 use lent::digest;
 use lent::fill_presence;
 use lent::fill_records;
@@ -94,7 +94,7 @@ fn taken(
     before: Run,
 ) -> Run {
     let n = four_of(before.x);
-    let q = dice::draw::drawn(t, n);
+    let q = draws::drawn(t, n);
     let off = off_of(n);
     let answer = step::take(d, r, dp, rp, t.shape, off, q);
     let status = status_of(answer);

@@ -3,7 +3,7 @@ use crate::print::field;
 use crate::print::hex;
 use crate::print::line_end;
 use crate::print::spaced;
-use dice::draw::Request;
+use draws::Request;
 
 fn request(q: Request) {
     spaced(q.class);

@@ -1,6 +1,6 @@
 // A drawn step, taken by the controller.
 ghost use Rattle.io.specs.Counts.{Counts};
-use dice::draw::Request;
+use draws::Request;
 use types::Access;
 use types::Answer;
 use types::Frame;

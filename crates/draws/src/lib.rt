@@ -1,10 +1,10 @@
-// What a step asks for. Each step takes four numbers of the stream, whatever it is.
-use crate::random::next;
-use crate::random::pick;
-use crate::random::word;
-use crate::table::Table;
-use crate::table::home_of;
-use crate::table::intid_of;
+// What a step of a long random run asks for (docs/SOAK.md). Each step takes four numbers of the stream, whatever it is.
+use dice::random::next;
+use dice::random::pick;
+use dice::random::word;
+use dice::table::Table;
+use dice::table::home_of;
+use dice::table::intid_of;
 use edges::any_offset;
 use edges::any_width;
 use edges::edge;
