@@ -129,6 +129,7 @@ module _ {s : State} {d r dp rp : List ℕ} (line : List ℕ) (hs : s ≡ startS
     (hdp : dp ≡ replicate 63 4294967295) (hrp : rp ≡ replicate 3 4294967295) (hl : length line ≡ 18) where
   pub from-start : (input b : List ℕ) (s′ : State) (t : Tables) (line′ : List ℕ) (used : ℕ) (b′ : List ℕ) (e : ℕ)
       → Taken (within (length b) (liveOf s (lent d r dp rp) line [] 0) input) s′ t line′ input used b b′ e
-      → Taken (taken (length b) input) s′ t line′ input used b b′ e
+      → Taken (taken (length b) input) s′ (taken (length b) input .live .run .tables) line′ input used b b′ e
   from-start input b s′ t line′ used b′ e k =
-      subst (λ (l : Live). Taken (within (length b) l input) s′ t line′ input used b b′ e) (start-live s d r dp rp line hs hd hr hdp hrp hl) k
+      let got = subst (λ (l : Live). Taken (within (length b) l input) s′ t line′ input used b b′ e) (start-live s d r dp rp line hs hd hr hdp hrp hl) k in
+      subst (λ (u : Tables). Taken (taken (length b) input) s′ u line′ input used b b′ e) (ap (λ (l : Live). l .run .tables) (got .live)) got
