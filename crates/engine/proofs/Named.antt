@@ -52,13 +52,18 @@ module _ (s : Shape) (t : Tables) (m : ℕ) where
       by true e z = sym e ∙ nowhere-missing z
       by false e z = refl
 
-  pub located-there : (r : Frame) (k w : ℕ) → located s (t .distPresence) (t .redistPresence) m ≡ Slot r k w → (implemented s t m ≡ true) × (homeOf m ≡ Slot r k w)
+  located-there : (r : Frame) (k w : ℕ) → located s (t .distPresence) (t .redistPresence) m ≡ Slot r k w → (implemented s t m ≡ true) × (homeOf m ≡ Slot r k w)
   unfolding located
   located-there r k w h = by (implemented s t m) refl (ap (λ (b : Bool). orElse b (homeOf m) Nowhere) (implemented-same s t m) ∙ h)
     where
       by : (b : Bool) → implemented s t m ≡ b → orElse b (homeOf m) Nowhere ≡ Slot r k w → (b ≡ true) × (homeOf m ≡ Slot r k w)
       by true e z = (refl, z)
       by false e z = absurd (let q : _≡_ {A = ℕ} 0 1 = cc in omega arith)
+
+  -- by what `locate` gave, and the frame that a match on it told
+  pub located-in : (h : Home) (r′ r : Frame) (k w : ℕ) → h ≡ located s (t .distPresence) (t .redistPresence) m → h ≡ Slot r′ k w → r′ ≡ r
+      → (implemented s t m ≡ true) × (homeOf m ≡ Slot r k w)
+  located-in h r′ r k w found is here = located-there r k w (sym found ∙ (is ∙ ap (λ (x : Frame). Slot x k w) here))
 
 -- a rule that leaves every interrupt of the tables
 pub quiet : (s : Shape) (t : Tables) (rule : ℕ → Cell → Cell) → Bytes (t .dist) → Bytes (t .redist)

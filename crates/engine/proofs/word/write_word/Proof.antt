@@ -84,24 +84,30 @@ same-length c = search needs
 
 returns : tie.Need-returns
 returns c =
-    let a = c .before .before .before .before .before .before .before .before .before .before .before .before .before .args in
-    let b = c .before .before .before .before .before .before in
-    let b2 = c .before .before .before .before .before .before .before .before .before .before .before .before .before in
-    let b3 = c .before .before .before .before .before .before .before .before in
-    let b4 = c .before .before .before .before .before .before .before in
-    rw (b .span-of .ensures) (write-dist (a .shape) (lent (now (a .dist)) (now (a .redist)) (now (a .dist-presence)) (now (a .redist-presence))) (b2 .pre .0) (a .side) (a .family) (a .place) (b2 .pre .1 .0) (b3 .first-of .result) (b4 .mask-of .result) (b3 .first-of .ensures) (b4 .mask-of .ensures) (sym (ap (λ (z : Span). z .frame) (b .span-of .ensures)) ∙ c .before .before .before .before .enum-told .given .1) (a .value) (λ k. c .before .before .before .before .before .before .before .before .before .before .before .before .slice-known .given k .fits) (λ k. c .before .before .before .before .before .before .before .before .before .before .before .slice-known2 .given k .fits) _ (rw (b .span-of .ensures) at (c .before .before .store .ensures)))
+    let found = c .before .before .before .before .before .before in
+    let first = found .before .before .first-of in
+    let mask = found .before .mask-of in
+    let s = c .before .before .before .before .before .before .before .before .before .before .before in
+    let e = s .before .before in
+    let a = e .args in
+    rw (found .span-of .ensures) (write-dist (a .shape) (lent (now (a .dist)) (now (a .redist)) (now (a .dist-presence)) (now (a .redist-presence))) (e .pre .0) (a .side) (a .family) (a .place) (e .pre .1 .0) (first .result) (mask .result) (first .ensures) (mask .ensures)
+    (sym (ap (λ (z : Span). z .frame) (found .span-of .ensures)) ∙ c .before .before .before .before .enum-told .given .1) (a .value)
+    (λ k. s .before .slice-known .given k .fits) (λ k. s .slice-known2 .given k .fits) _ (rw (found .span-of .ensures) at (c .before .before .store .ensures)))
 
 same-length-2 : tie.Need-same-length-2
 same-length-2 c = search needs
 
 returns-2 : tie.Need-returns-2
 returns-2 c =
-    let a = c .before .before .before .before .before .before .before .before .before .before .before .before .before .args in
-    let b = c .before .before .before .before .before .before in
-    let b2 = c .before .before .before .before .before .before .before .before .before .before .before .before .before in
-    let b3 = c .before .before .before .before .before .before .before .before in
-    let b4 = c .before .before .before .before .before .before .before in
-    rw (b .span-of .ensures) (write-redist (a .shape) (lent (now (a .dist)) (now (a .redist)) (now (a .dist-presence)) (now (a .redist-presence))) (b2 .pre .0) (a .side) (a .family) (a .place) (b2 .pre .1 .0) (b3 .first-of .result) (b4 .mask-of .result) (b3 .first-of .ensures) (b4 .mask-of .ensures) (sym (ap (λ (z : Span). z .frame) (b .span-of .ensures)) ∙ c .before .before .before .before .enum-told2 .given .1) (a .value) (λ k. c .before .before .before .before .before .before .before .before .before .before .before .before .slice-known .given k .fits) (λ k. c .before .before .before .before .before .before .before .before .before .before .before .slice-known2 .given k .fits) _ (rw (b .span-of .ensures) at (c .before .before .store2 .ensures)))
+    let found = c .before .before .before .before .before .before in
+    let first = found .before .before .first-of in
+    let mask = found .before .mask-of in
+    let s = c .before .before .before .before .before .before .before .before .before .before .before in
+    let e = s .before .before in
+    let a = e .args in
+    rw (found .span-of .ensures) (write-redist (a .shape) (lent (now (a .dist)) (now (a .redist)) (now (a .dist-presence)) (now (a .redist-presence))) (e .pre .0) (a .side) (a .family) (a .place) (e .pre .1 .0) (first .result) (mask .result) (first .ensures) (mask .ensures)
+    (sym (ap (λ (z : Span). z .frame) (found .span-of .ensures)) ∙ c .before .before .before .before .enum-told2 .given .1) (a .value)
+    (λ k. s .before .slice-known .given k .fits) (λ k. s .slice-known2 .given k .fits) _ (rw (found .span-of .ensures) at (c .before .before .store2 .ensures)))
 
 pub write-word-spec : {M : Type 1} → statement M
 write-word-spec =
