@@ -23,7 +23,6 @@ mod lent;
 mod plan;
 mod print;
 mod show;
-mod step;
 
 // What a table's steps came to. `changed` is how often the tables' digest was not the one before it.
 struct Run {
@@ -96,7 +95,7 @@ fn taken(
     let n = four_of(before.x);
     let q = draws::drawn(t, n);
     let off = off_of(n);
-    let answer = step::take(d, r, dp, rp, t.shape, off, q);
+    let answer = asked::ask(d, r, dp, rp, t.shape, off, q);
     let status = status_of(answer);
     let value = value_of(answer);
     count(counts, q, status);

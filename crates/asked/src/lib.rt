@@ -1,5 +1,7 @@
-// A drawn step, taken by the controller.
-ghost use Rattle.io.specs.Counts.{Counts};
+// A drawn step of a long random run, put to the controller (docs/SOAK.md).
+ghost use mathlib.Core.Path.{_≡_};
+ghost use Prim.Native.Nat.{_≤_};
+ghost use lib.ListN.{length, take};
 use draws::Request;
 use types::Access;
 use types::Answer;
@@ -63,13 +65,13 @@ fn lent(off: u32, short: u32, right: usize) -> usize {
 }
 
 fn within_bytes(n: usize, b: &[u8]) -> usize
-    ensures { λ r. ⌜ Counts r (now (b .entry)) ⌝ }
+    ensures { λ r. ⌜ (r ≤ length (now (b .entry))) × (length (take r (now (b .entry))) ≡ r) ⌝ }
 {
     if n <= b.len() { n } else { b.len() }
 }
 
 fn within_words(n: usize, b: &[u32]) -> usize
-    ensures { λ r. ⌜ Counts r (now (b .entry)) ⌝ }
+    ensures { λ r. ⌜ (r ≤ length (now (b .entry))) × (length (take r (now (b .entry))) ≡ r) ⌝ }
 {
     if n <= b.len() { n } else { b.len() }
 }
@@ -92,7 +94,7 @@ fn shape_off(shape: Shape, off: u32) -> Shape {
 }
 
 // One step, with what `off` says off its limit for this step alone.
-pub fn take(
+pub fn ask(
     d: &mut [u8],
     r: &mut [u8],
     dp: &[u32],

@@ -1,8 +1,8 @@
 use lib.ListN.{length-take}
 use borrow.Author.Needs.{needs}
 use native.Mathlib.Omega.{arith}
-use Rattle.soak.proofs.step.within_bytes.Statement.{statement}
-use Rattle.soak.proofs.step.within_bytes.Tie as tie
+use Rattle.asked.proofs.within_bytes.Statement.{statement}
+use Rattle.asked.proofs.within_bytes.Tie as tie
 
 returns : tie.Need-returns
 returns c = (search needs, simp length-take (omega arith))
