@@ -6,7 +6,7 @@ mod fresh;
 mod lent;
 mod print;
 
-// Shape numbers beside the interrupts that they bring: what exists, and what is one past it.
+// Wires that go low: lines, espi, eppi, and the INTID. What a shape brings, and what is one past it.
 fn bench() {
     fresh::wire(9, 4, 1, 319);
     fresh::wire(9, 4, 1, 320);
