@@ -1,6 +1,5 @@
 -- What a map code stands for at an offset. Proved to be `listed` at every word of the first 4 KiB, in both frames.
 use mathlib.Core.Bool.{Bool, true, false}
-use mathlib.Core.List.{List, [], _∷_}
 use Prim.Native.Nat.{ℕ, _-_, _/_}
 use lib.Dec.{eqb, ltb}
 use Rattle.types.specs.declared.Frame.the-variants.{Dist, Redist}
@@ -14,9 +13,6 @@ use Rattle.types.specs.declared.Decoded.the-variants.{At, Refused}
 use Rattle.meaning.specs.Registers.{base, redistWords, redistPlace, pick}
 use Rattle.listing.specs.declared.Entry.{Entry}
 use Rattle.listing.specs.declared.Entry.the-variants as entry
-
-abbrev pub lastFamilies : List Family
-lastFamilies = Isactiver ∷ Icactiver ∷ Igrpmodr ∷ Icfgr ∷ []
 
 abbrev pub choose : Bool → Entry → Entry → Entry
 choose true a b = a

@@ -7,7 +7,7 @@ ghost use Rattle.types.specs.declared.Refusal.the-variants as refusal;
 ghost use Rattle.types.specs.declared.Decoded.the-variants.{At, Refused};
 ghost use Rattle.meaning.specs.Layout.{between};
 ghost use Rattle.meaning.specs.Registers.{extendedBase, distWords, inColumn, families, listed};
-ghost use Rattle.listing.specs.Entry.{lastFamilies, entryOf, distPlace, redistRegister, redistWord};
+ghost use Rattle.listing.specs.Entry.{entryOf, distPlace, redistRegister, redistWord};
 use families::base;
 use families::digit_bits;
 use families::extended_base;
@@ -117,25 +117,6 @@ fn extended(f: Family, offset: u32) -> Decoded
     Decoded::At(Place::Extended(Frame::Dist, f, word_number(extended_base(f), offset)))
 }
 
-// The Distributor's extended words of the last four families.
-fn last_extended_at(offset: u32) -> Decoded
-    ensures { λ d. ⌜ d ≡ inColumn extendedBase distWords (place.Extended Dist) offset (Refused refusal.Unlisted) lastFamilies ⌝ }
-{
-    if in_extended(Family::Isactiver, offset) {
-        return extended(Family::Isactiver, offset);
-    }
-    if in_extended(Family::Icactiver, offset) {
-        return extended(Family::Icactiver, offset);
-    }
-    if in_extended(Family::Igrpmodr, offset) {
-        return extended(Family::Igrpmodr, offset);
-    }
-    if in_extended(Family::Icfgr, offset) {
-        return extended(Family::Icfgr, offset);
-    }
-    Decoded::Refused(Refusal::Unlisted)
-}
-
 // The Distributor's extended words.
 fn extended_at(offset: u32) -> Decoded
     ensures { λ d. ⌜ d ≡ inColumn extendedBase distWords (place.Extended Dist) offset (Refused refusal.Unlisted) families ⌝ }
@@ -155,7 +136,19 @@ fn extended_at(offset: u32) -> Decoded
     if in_extended(Family::Icpendr, offset) {
         return extended(Family::Icpendr, offset);
     }
-    last_extended_at(offset)
+    if in_extended(Family::Isactiver, offset) {
+        return extended(Family::Isactiver, offset);
+    }
+    if in_extended(Family::Icactiver, offset) {
+        return extended(Family::Icactiver, offset);
+    }
+    if in_extended(Family::Igrpmodr, offset) {
+        return extended(Family::Igrpmodr, offset);
+    }
+    if in_extended(Family::Icfgr, offset) {
+        return extended(Family::Icfgr, offset);
+    }
+    Decoded::Refused(Refusal::Unlisted)
 }
 
 // The place of the word at an offset that is a multiple of 4. The map covers both frames' first 4 KiB.

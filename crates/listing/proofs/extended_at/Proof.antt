@@ -73,18 +73,93 @@ returns-5 c =
     let c1 = c2 .before .before in
     rw (← (c1 .in-extended .ensures), c2 .before .if1 .left, ← (c2 .in-extended2 .ensures), c3 .before .if2 .left, ← (c3 .in-extended3 .ensures), c4 .before .if3 .left, ← (c4 .in-extended4 .ensures), c5 .before .if4 .left, ← (c5 .in-extended5 .ensures), c .before .if5 .taken) (c .extended5 .ensures)
 
-last-extended-at-requires : tie.Need-last-extended-at-requires
-last-extended-at-requires c κs = search needs
+in-extended-requires-6 : tie.Need-in-extended-requires-6
+in-extended-requires-6 c κs = search needs
+
+extended-requires-6 : tie.Need-extended-requires-6
+extended-requires-6 c κs = search needs
 
 returns-6 : tie.Need-returns-6
 unfolding inColumn
 returns-6 c =
-    let c5 = c .before .before in
+    let c6 = c .before .before in
+    let c5 = c6 .before .before in
     let c4 = c5 .before .before in
     let c3 = c4 .before .before in
     let c2 = c3 .before .before in
     let c1 = c2 .before .before in
-    rw (← (c1 .in-extended .ensures), c2 .before .if1 .left, ← (c2 .in-extended2 .ensures), c3 .before .if2 .left, ← (c3 .in-extended3 .ensures), c4 .before .if3 .left, ← (c4 .in-extended4 .ensures), c5 .before .if4 .left, ← (c5 .in-extended5 .ensures), c .before .if5 .left) (c .last-extended-at .ensures)
+    rw (← (c1 .in-extended .ensures), c2 .before .if1 .left, ← (c2 .in-extended2 .ensures), c3 .before .if2 .left, ← (c3 .in-extended3 .ensures), c4 .before .if3 .left, ← (c4 .in-extended4 .ensures), c5 .before .if4 .left, ← (c5 .in-extended5 .ensures), c6 .before .if5 .left, ← (c6 .in-extended6 .ensures), c .before .if6 .taken) (c .extended6 .ensures)
+
+in-extended-requires-7 : tie.Need-in-extended-requires-7
+in-extended-requires-7 c κs = search needs
+
+extended-requires-7 : tie.Need-extended-requires-7
+extended-requires-7 c κs = search needs
+
+returns-7 : tie.Need-returns-7
+unfolding inColumn
+returns-7 c =
+    let c7 = c .before .before in
+    let c6 = c7 .before .before in
+    let c5 = c6 .before .before in
+    let c4 = c5 .before .before in
+    let c3 = c4 .before .before in
+    let c2 = c3 .before .before in
+    let c1 = c2 .before .before in
+    rw (← (c1 .in-extended .ensures), c2 .before .if1 .left, ← (c2 .in-extended2 .ensures), c3 .before .if2 .left, ← (c3 .in-extended3 .ensures), c4 .before .if3 .left, ← (c4 .in-extended4 .ensures), c5 .before .if4 .left, ← (c5 .in-extended5 .ensures), c6 .before .if5 .left, ← (c6 .in-extended6 .ensures), c7 .before .if6 .left, ← (c7 .in-extended7 .ensures), c .before .if7 .taken) (c .extended7 .ensures)
+
+in-extended-requires-8 : tie.Need-in-extended-requires-8
+in-extended-requires-8 c κs = search needs
+
+extended-requires-8 : tie.Need-extended-requires-8
+extended-requires-8 c κs = search needs
+
+returns-8 : tie.Need-returns-8
+unfolding inColumn
+returns-8 c =
+    let c8 = c .before .before in
+    let c7 = c8 .before .before in
+    let c6 = c7 .before .before in
+    let c5 = c6 .before .before in
+    let c4 = c5 .before .before in
+    let c3 = c4 .before .before in
+    let c2 = c3 .before .before in
+    let c1 = c2 .before .before in
+    rw (← (c1 .in-extended .ensures), c2 .before .if1 .left, ← (c2 .in-extended2 .ensures), c3 .before .if2 .left, ← (c3 .in-extended3 .ensures), c4 .before .if3 .left, ← (c4 .in-extended4 .ensures), c5 .before .if4 .left, ← (c5 .in-extended5 .ensures), c6 .before .if5 .left, ← (c6 .in-extended6 .ensures), c7 .before .if6 .left, ← (c7 .in-extended7 .ensures), c8 .before .if7 .left, ← (c8 .in-extended8 .ensures), c .before .if8 .taken) (c .extended8 .ensures)
+
+in-extended-requires-9 : tie.Need-in-extended-requires-9
+in-extended-requires-9 c κs = search needs
+
+extended-requires-9 : tie.Need-extended-requires-9
+extended-requires-9 c κs = search needs
+
+returns-9 : tie.Need-returns-9
+unfolding inColumn
+returns-9 c =
+    let c9 = c .before .before in
+    let c8 = c9 .before .before in
+    let c7 = c8 .before .before in
+    let c6 = c7 .before .before in
+    let c5 = c6 .before .before in
+    let c4 = c5 .before .before in
+    let c3 = c4 .before .before in
+    let c2 = c3 .before .before in
+    let c1 = c2 .before .before in
+    rw (← (c1 .in-extended .ensures), c2 .before .if1 .left, ← (c2 .in-extended2 .ensures), c3 .before .if2 .left, ← (c3 .in-extended3 .ensures), c4 .before .if3 .left, ← (c4 .in-extended4 .ensures), c5 .before .if4 .left, ← (c5 .in-extended5 .ensures), c6 .before .if5 .left, ← (c6 .in-extended6 .ensures), c7 .before .if6 .left, ← (c7 .in-extended7 .ensures), c8 .before .if7 .left, ← (c8 .in-extended8 .ensures), c9 .before .if8 .left, ← (c9 .in-extended9 .ensures), c .before .if9 .taken) (c .extended9 .ensures)
+
+returns-10 : tie.Need-returns-10
+unfolding inColumn
+returns-10 c =
+    let c9 = c .before in
+    let c8 = c9 .before .before in
+    let c7 = c8 .before .before in
+    let c6 = c7 .before .before in
+    let c5 = c6 .before .before in
+    let c4 = c5 .before .before in
+    let c3 = c4 .before .before in
+    let c2 = c3 .before .before in
+    let c1 = c2 .before .before in
+    rw (← (c1 .in-extended .ensures), c2 .before .if1 .left, ← (c2 .in-extended2 .ensures), c3 .before .if2 .left, ← (c3 .in-extended3 .ensures), c4 .before .if3 .left, ← (c4 .in-extended4 .ensures), c5 .before .if4 .left, ← (c5 .in-extended5 .ensures), c6 .before .if5 .left, ← (c6 .in-extended6 .ensures), c7 .before .if6 .left, ← (c7 .in-extended7 .ensures), c8 .before .if7 .left, ← (c8 .in-extended8 .ensures), c9 .before .if8 .left, ← (c9 .in-extended9 .ensures), c .if9 .left)
 
 pub extended-at-spec : {M : Type 1} → statement M
 extended-at-spec =
@@ -105,5 +180,16 @@ extended-at-spec =
     in-extended-requires-5
     extended-requires-5
     returns-5
-    last-extended-at-requires
-    returns-6)
+    in-extended-requires-6
+    extended-requires-6
+    returns-6
+    in-extended-requires-7
+    extended-requires-7
+    returns-7
+    in-extended-requires-8
+    extended-requires-8
+    returns-8
+    in-extended-requires-9
+    extended-requires-9
+    returns-9
+    returns-10)
