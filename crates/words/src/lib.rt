@@ -1,5 +1,6 @@
 // The loops over the records behind one register word: 28 or 32 of them, 12 or 16 behind an ICFGR word.
-// The part of the table that holds them is lent; nothing is copied, and no record outside the part is looked at.
+// The part of the table that holds them is lent; nothing is copied, and no record outside the part is looked at. A read visits every
+// record, and so does a write where a 0 acts; a set or clear write visits those of its ones.
 ghost use mathlib.Core.Path.{_≡_};
 ghost use mathlib.Core.Bool.{true};
 ghost use Prim.Native.Nat.{_+_, _*_, _<_, _≤_};
@@ -81,7 +82,7 @@ pub fn gather(part: &[u8], word: Word) -> u32
     value
 }
 
-// The families in which a written 0 does nothing.
+// Whether a written 0 does nothing.
 fn set_or_clear(family: Family) -> bool
     ensures { λ x. ⌜ x ≡ setOrClear family ⌝ }
 {
@@ -98,8 +99,8 @@ fn set_or_clear(family: Family) -> bool
     }
 }
 
-// A write to one of them jumps from one written 1 to the next and visits no other record. Where no 1 is left there are 32 trailing
-// zeros, and no part has more records than that; a 1 past the part's end acts on nothing.
+// A set or clear write: from one written 1 to the next, by the count of trailing zeros. Where none is left that count is 32, and no part
+// has more records; a 1 past the part's end, and all above it, act on nothing.
 fn jump(part: &mut [u8], word: Word, value: u32)
     requires { ⌜ Fitting word (now part) ⌝ }
     requires { ⌜ setOrClear (word .family) ≡ true ⌝ }
@@ -115,7 +116,7 @@ fn jump(part: &mut [u8], word: Word, value: u32)
     }
 }
 
-// A write to any other family visits every record: a written 0 acts too.
+// A write where a 0 acts too: every record.
 fn walk(part: &mut [u8], word: Word, value: u32)
     requires { ⌜ Fitting word (now part) ⌝ }
     ensures { λ _. ⌜ now (part .exit) ≡ stored word value (now (part .entry)) ⌝ }
