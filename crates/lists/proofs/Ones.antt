@@ -4,9 +4,9 @@
 --   without-same     the word without bit x has no bit x
 --   without-other    and every other bit as it was
 --   without-less     where bit x was 1 it is a smaller number
-use mathlib.Core.Path.{_≡_, refl, sym, ap, ap₂, _∙_}
+use mathlib.Core.Path.{_≡_, refl, sym, ap, _∙_}
 use mathlib.Core.Bool.{Bool, true, false, not, _&&_, Bool·beq}
-use Prim.Native.Nat.{ℕ, zero, suc, _+_, _-_, _*_, _/_, _%_, _^_, _≤_, _<_}
+use Prim.Native.Nat.{ℕ, zero, suc, _-_, _*_, _/_, _%_, _^_, _<_}
 use native.Mathlib.Nat.{le-of-suc-le-suc, not-suc-le-zero, mod-lt, add-comm}
 use native.Mathlib.Numerals.{add-one}
 use native.Mathlib.Omega.{arith}
@@ -66,17 +66,18 @@ and-bit a b j =
     ∙ and-digit (a / 2 ^ j % 2) (b / 2 ^ j % 2) (mod-lt (a / 2 ^ j) (omega arith)) (mod-lt (b / 2 ^ j) (omega arith)))
 
 -- a word of 32 bits without its bit x, as the language writes it: v & !(1 << x)
-abbrev pub without : ℕ → ℕ → ℕ
-without v x = bitAnd v (4294967295 - (1 * 2 ^ x) % 2 ^ 32)
+abbrev allBut : ℕ → ℕ
+allBut x = 4294967295 - (1 * 2 ^ x) % 2 ^ 32
 
-all-but : (x j : ℕ) → x < 32 → j < 32 → bitAt (4294967295 - (1 * 2 ^ x) % 2 ^ 32) j ≡ not (eqb j x)
+abbrev pub without : ℕ → ℕ → ℕ
+without v x = bitAnd v (allBut x)
+
+all-but : (x j : ℕ) → x < 32 → j < 32 → bitAt (allBut x) j ≡ not (eqb j x)
 unfolding bitAt
-all-but x j h k =
-    beq-true (bitAt (4294967295 - (1 * 2 ^ x) % 2 ^ 32) j) (not (eqb j x))
-    (every-at (row x) 32 (every-at (λ i. every (row i) 0 32) 32 refl x h) j k)
+all-but x j h k = beq-true (bitAt (allBut x) j) (not (eqb j x)) (every-at (row x) 32 (every-at (λ i. every (row i) 0 32) 32 refl x h) j k)
   where
     row : ℕ → ℕ → Bool
-    row x j = Bool·beq (bitAt (4294967295 - (1 * 2 ^ x) % 2 ^ 32) j) (not (eqb j x))
+    row x j = Bool·beq (bitAt (allBut x) j) (not (eqb j x))
 
 and-false : (a : Bool) → (a && false) ≡ false
 and-false true = refl
@@ -88,16 +89,16 @@ and-true false = refl
 
 pub without-same : (v x : ℕ) → x < 32 → bitAt (without v x) x ≡ false
 without-same v x h =
-    and-bit v (4294967295 - (1 * 2 ^ x) % 2 ^ 32) x
+    and-bit v (allBut x) x
     ∙ (ap (λ (b : Bool). bitAt v x && b) (all-but x x h h ∙ ap not (eq-eqb x x refl)) ∙ and-false (bitAt v x))
 
 pub without-other : (v x j : ℕ) → x < 32 → j < 32 → (j ≡ x → ⊥) → bitAt (without v x) j ≡ bitAt v j
 without-other v x j h k ne =
-    and-bit v (4294967295 - (1 * 2 ^ x) % 2 ^ 32) j
+    and-bit v (allBut x) j
     ∙ (ap (λ (b : Bool). bitAt v j && b) (all-but x j h k ∙ ap not (ne-eqb j x ne)) ∙ and-true (bitAt v j))
 
 pub without-less : (v x : ℕ) → x < 32 → bitAt v x ≡ true → without v x < v
 without-less v x h one =
-    let le = and-le-l v (4294967295 - (1 * 2 ^ x) % 2 ^ 32) in
+    let le = and-le-l v (allBut x) in
     let ne : without v x ≡ v → ⊥ = λ e. clash one (ap (λ (z : ℕ). bitAt z x) (sym e) ∙ without-same v x h) in
     omega arith
