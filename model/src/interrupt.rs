@@ -20,9 +20,10 @@ pub struct Interrupt {
 }
 
 impl Interrupt {
-    /// "Non-secure means group 1, modifier 0. Any other pair is Secure"
+    /// "an interrupt is Non-secure exactly when group is 1, whatever the modifier"
+    /// (CR 2).
     pub fn non_secure(&self) -> bool {
-        self.group && !self.modifier
+        self.group
     }
 
     /// "Bits of Secure interrupts do the same for the Non-secure side, in every

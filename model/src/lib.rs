@@ -1,12 +1,13 @@
 //! A second model of the interrupt controller's answers, to compare with.
 //!
-//! It is written from document 01 and its readings (docs/DECISIONS.md has them)
-//! alone, in another shape than the product: a map from INTID to a struct of
-//! named facts, and a `match` on offsets. Record bytes appear only in `tables`,
-//! where the lent tables are loaded and stored.
+//! It is written from document 01, the requests of document 02 that are built and
+//! their readings (docs/DECISIONS.md has them) alone, in another shape than the
+//! product: a map from INTID to a struct of named facts, and a `match` on offsets.
+//! Record bytes appear only in `tables`, where the lent tables are loaded and
+//! stored.
 //!
-//! Comments in quotation marks are sentences of document 01. "Reading n" is
-//! point n of the readings.
+//! Comments in quotation marks are sentences of document 01, or of document 02
+//! where they name a request (CR n) of it. "Reading n" is point n of the readings.
 
 pub mod answer;
 pub mod interrupt;

@@ -140,8 +140,7 @@ fn bit_of(at: u32, family: u32) -> u32 {
     1 << (at % 32)
 }
 
-// A word of a family: the home's, or (1 in 16) any; 1 in 64 at width 2. Modifier bits of 0 make the homes Non-secure more often
-// than not.
+// A word of a family: the home's, or (1 in 16) any; 1 in 64 at width 2.
 fn family(home: u32, n: Numbers) -> Request {
     let which = pick(n.b, 4, 9);
     let at = if pick(n.b, 8, 16) == 0 {
@@ -158,7 +157,7 @@ fn family(home: u32, n: Numbers) -> Request {
         column / 2,
         width,
         offset_of(at, which),
-        if which == 7 { !value } else { value },
+        value,
     )
 }
 

@@ -10,8 +10,10 @@ use Rattle.types.specs.declared.Side.the-variants.{Secure, NonSecure}
 use Rattle.types.specs.declared.Shape.{Shape}
 use Rattle.types.specs.declared.Family.{Family}
 use Rattle.types.specs.declared.Family.the-variants.{Igroupr, Isenabler, Icenabler, Ispendr, Icpendr, Isactiver, Icactiver, Igrpmodr, Icfgr}
-use Rattle.meaning.specs.Cell.{Cell, get, put, decode, encode, sgi, edgeOf, pending}
-use Rattle.meaning.specs.Rule.{reset, gated, grouping, setter, mayTouch, setting, clearing, retriggered, otherTrigger, fixedField, configured, update, shows, reaches, touched, visible, messageSet, messageCleared, rises, wired, activated, deactivated, act}
+use Rattle.meaning.specs.Cell.{Cell, get, put, decode, encode, nonSecure, sgi, edgeOf, pending}
+use Rattle.meaning.specs.Rule.{gated, grouping, setter, mayTouch, setting, clearing, retriggered, otherTrigger, fixedField, configured}
+use Rattle.meaning.specs.Rule.{update, shows, reaches, touched, visible, messageSet, messageCleared, rises, wired, activated}
+use Rattle.meaning.specs.Rule.{deactivated, reset, act}
 use Rattle.meaning.proofs.Bytes.{digit-back}
 use Rattle.meaning.proofs.Cells.{gated-true, gated-false}
 
@@ -88,9 +90,26 @@ unfolding touched reaches mayTouch
 secure-touched f d m c h = ap (λ (i : Bool). gated (i && true) (update f d m c) c) h
 
 -- IGROUPR and IGRPMODR: the stored bits are what was written ..
-pub group-stored : (d m : ℕ) (c : Cell) → (shows Igroupr m (update Igroupr d m c) ≡ digit (eqb d 1)) × (shows Igrpmodr m (update Igrpmodr d m c) ≡ digit (eqb d 1))
+pub group-stored : (d m : ℕ) (c : Cell)
+    → (shows Igroupr m (update Igroupr d m c) ≡ digit (eqb d 1)) × (shows Igrpmodr m (update Igrpmodr d m c) ≡ digit (eqb d 1))
 unfolding shows update put
 group-stored d m c = (refl, refl)
+
+-- .. each beside the other, so that both can be 1 and read back ..
+pub group-apart : (d m : ℕ) (c : Cell)
+    → (shows Igrpmodr m (update Igroupr d m c) ≡ shows Igrpmodr m c) × (shows Igroupr m (update Igrpmodr d m c) ≡ shows Igroupr m c)
+unfolding shows update put
+group-apart d m c = (refl, refl)
+
+-- .. the group alone tells the side (document 02, CR 2): an IGROUPR write gives the interrupt to the side that the written bit names ..
+pub group-decides : (d m : ℕ) (c : Cell) → nonSecure (update Igroupr d m c) ≡ eqb d 1
+unfolding nonSecure update put
+group-decides d m c = refl
+
+-- .. and an IGRPMODR write leaves it on its side ..
+pub modifier-decides-nothing : (d m : ℕ) (c : Cell) → nonSecure (update Igrpmodr d m c) ≡ nonSecure c
+unfolding nonSecure update put
+modifier-decides-nothing d m c = refl
 
 -- .. the Non-secure side reads 0 and its writes do nothing.
 pub group-hidden : (f : Family) (d m : ℕ) (c : Cell) → grouping f ≡ true → (visible NonSecure f m c ≡ 0) × (touched NonSecure f d m c ≡ c)

@@ -1,5 +1,5 @@
 -- One interrupt, as document 01's "Shape and tables" has it: whether it is implemented, and the eight bits of its record.
-use mathlib.Core.Bool.{Bool, cond, not, _&&_, _||_}
+use mathlib.Core.Bool.{Bool, cond, _||_}
 use Prim.Native.Nat.{ℕ, _+_, _*_, _/_, _%_}
 use lib.Dec.{eqb, ltb}
 use Rattle.lists.specs.Word.{digit}
@@ -85,9 +85,10 @@ encode c =
     weighed Enabled (c .enabled) + weighed Latch (c .latch) + weighed Wire (c .wire) + weighed MessageLevel (c .message)
     + weighed Active (c .active) + weighed Edge (c .edge) + weighed Group (c .group) + weighed Modifier (c .modifier)
 
--- Non-secure means group 1, modifier 0. Any other pair is Secure (HOUSE: both bits 1 too).
+-- Non-secure means group 1, whatever the modifier (document 02, CR 2): group alone and both bits 1 are Non-secure Group 1. The others
+-- are Secure: both bits 0 is Group 0, modifier alone is Secure Group 1.
 unfoldable pub nonSecure : Cell → Bool
-nonSecure c = c .group && not (c .modifier)
+nonSecure c = c .group
 
 -- INTIDs 0 to 15 are SGIs, which are edge whatever the edge bit says
 unfoldable pub sgi : ℕ → Bool

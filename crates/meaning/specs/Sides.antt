@@ -49,7 +49,7 @@ groupingAt (At place.Typer) = false
 groupingAt (At (place.Message g)) = false
 groupingAt (Refused r) = false
 
--- the step may change which side an interrupt is on: group and modifier writes by the Secure side, and reset
+-- the step may change a grouping bit: group and modifier writes by the Secure side, and reset
 unfoldable pub regroups : Step → Bool
 regroups (access a) = secure (a .side) && (writes (a .way) && groupingAt (placeOf (a .frame) (a .width) (a .offset)))
 regroups (wire m level) = false

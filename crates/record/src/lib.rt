@@ -26,10 +26,11 @@ pub fn is_pending(m: u32, r: u8) -> bool
     }
 }
 
+// Group 1, whatever the modifier.
 pub fn non_secure(r: u8) -> bool
     ensures { λ x. ⌜ ((i : Bool) → x ≡ nonSecure (decode i r)) ⌝ }
 {
-    has(Bit::Group, r) & !has(Bit::Modifier, r)
+    has(Bit::Group, r)
 }
 
 pub fn side_sees(side: Side, r: u8) -> bool

@@ -12,7 +12,7 @@ fn record(mode: u32, x: u64) -> u8 {
         return 0;
     }
     if mode == 1 {
-        return (any % 64 + 64) as u8;
+        return (any % 256) as u8 | 64;
     }
     (any % 256) as u8
 }

@@ -3,14 +3,9 @@
 //! "nothing else changes" is seen on records that could change.
 
 use super::support::*;
-use berduzhika_model::Step;
 
-/// 0; Non-secure edge; all but pending and wired, and Secure.
-const OTHERS: [u8; 3] = [0x00, 0x60, 0xF1];
-
-fn wire(intid: u32, level: bool) -> Step {
-    Step::Wire { intid, level }
-}
+/// 0; Non-secure edge; all but pending and wired, as Secure Group 1 and as both bits 1.
+const OTHERS: [u8; 4] = [0x00, 0x60, 0xB1, 0xF1];
 
 #[test]
 fn k1_set_pending_of_an_edge_interrupt() {
@@ -137,11 +132,7 @@ fn k11_typer_of_the_bench() {
 fn k12_a_second_activation_is_refused() {
     for others in OTHERS {
         let mut bench = Bench::with(others, &[(300, 0x63)]);
-        let activate = Step::Activate {
-            side: NonSecure,
-            intid: 300,
-        };
-        bench.does(activate, &[(300, 0x71)]);
-        bench.only_answers(activate, refused(9));
+        bench.does(activate(NonSecure, 300), &[(300, 0x71)]);
+        bench.only_answers(activate(NonSecure, 300), refused(9));
     }
 }

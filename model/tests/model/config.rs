@@ -83,9 +83,9 @@ fn sgi_fields_read_edge_and_their_records_stay() {
             }
         }
     }
-    // A Secure SGI shows 00 to the Non-secure side, a Non-secure one 10.
+    // A Secure SGI shows 00 to the Non-secure side, a Non-secure one 10, whatever its modifier.
     let mut bench = Bench::with(0x00, &[(3, 0x40), (4, 0xC0), (5, 0x80)]);
-    bench.only_answers(read(Redistributor, NonSecure, 0xC00), value(0x80));
+    bench.only_answers(read(Redistributor, NonSecure, 0xC00), value(0x280));
     bench.only_answers(read(Redistributor, Secure, 0xC00), value(0xAAAA_AAAA));
 }
 
@@ -144,7 +144,7 @@ fn one_word_goes_field_by_field() {
 fn secure_fields_read_0_to_the_non_secure_side() {
     let start = [(288, 0x20), (289, 0xA0), (290, 0xE0), (291, 0x60)];
     let mut bench = Bench::with(0x00, &start);
-    bench.only_answers(read(Distributor, NonSecure, 0xC48), value(0x80));
+    bench.only_answers(read(Distributor, NonSecure, 0xC48), value(0xA0));
     bench.only_answers(read(Distributor, Secure, 0xC48), value(0xAA));
 }
 

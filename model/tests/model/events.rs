@@ -1,19 +1,7 @@
 //! Wire events, activation, deactivation and reset.
 
 use super::support::*;
-use berduzhika_model::{Side, Step};
-
-fn wire(intid: u32, level: bool) -> Step {
-    Step::Wire { intid, level }
-}
-
-fn activate(side: Side, intid: u32) -> Step {
-    Step::Activate { side, intid }
-}
-
-fn deactivate(side: Side, intid: u32) -> Step {
-    Step::Deactivate { side, intid }
-}
+use berduzhika_model::Step;
 
 #[test]
 fn the_whole_intid_is_judged() {
@@ -68,8 +56,8 @@ fn a_rise_on_an_edge_interrupt_sets_the_latch() {
 
 #[test]
 fn a_wire_event_has_no_side() {
-    // Secure interrupts' wires move as well: Group 0, Secure Group 1, both bits.
-    for byte in [0x00, 0x80, 0xC0] {
+    // Group 0, Secure Group 1, and both kinds of Non-secure Group 1.
+    for byte in [0x00, 0x80, 0x40, 0xC0] {
         let mut bench = Bench::with(byte, &[]);
         bench.does(wire(300, true), &[(300, byte | 4)]);
     }
@@ -138,7 +126,7 @@ fn deactivation_clears_active_only() {
 #[test]
 fn refusal_7_comes_before_9_for_secure_interrupts() {
     // Each would be refused 9, or done, for the Secure side.
-    for grouping in [0x00, 0x80, 0xC0] {
+    for grouping in [0x00, 0x80] {
         for state in [0x00, 0x01, 0x03, 0x13, 0x23, 0x33] {
             let mut bench = Bench::with(grouping | state, &[]);
             for intid in [5, 20, 300, 1056, 4131] {

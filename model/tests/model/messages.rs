@@ -45,8 +45,8 @@ fn a_clear_drops_the_latch_for_edge_and_message_level_for_level() {
 
 #[test]
 fn which_side_may_name_which_kind() {
-    // Group 0, Secure Group 1, and both bits 1 are Secure.
-    for secure in [0x20, 0xA0, 0xE0] {
+    // Group 0 and Secure Group 1 are Secure.
+    for secure in [0x20, 0xA0] {
         for (set, clear) in [(SETSPI_NSR, CLRSPI_NSR), (SETSPI_SR, CLRSPI_SR)] {
             changes(Secure, set, 300, secure, secure | 2);
             changes(Secure, clear, 300, secure | 2, secure);
@@ -54,14 +54,19 @@ fn which_side_may_name_which_kind() {
             changes(NonSecure, clear, 300, secure | 2, secure | 2);
         }
     }
-    // A Secure write may name a Non-secure SPI in both registers.
-    for (set, clear) in [(SETSPI_NSR, CLRSPI_NSR), (SETSPI_SR, CLRSPI_SR)] {
-        changes(Secure, set, 300, 0x60, 0x62);
-        changes(Secure, clear, 300, 0x62, 0x60);
+    // Group alone and both bits 1 are Non-secure.
+    for open in [0x60, 0xE0] {
+        changes(NonSecure, SETSPI_NSR, 300, open, open | 2);
+        changes(NonSecure, CLRSPI_NSR, 300, open | 2, open);
+        // A Secure write may name a Non-secure SPI in both registers.
+        for (set, clear) in [(SETSPI_NSR, CLRSPI_NSR), (SETSPI_SR, CLRSPI_SR)] {
+            changes(Secure, set, 300, open, open | 2);
+            changes(Secure, clear, 300, open | 2, open);
+        }
+        // The Non-secure side's write to an SR register does nothing at all.
+        changes(NonSecure, SETSPI_SR, 300, open, open);
+        changes(NonSecure, CLRSPI_SR, 300, open | 2, open | 2);
     }
-    // The Non-secure side's write to an SR register does nothing at all.
-    changes(NonSecure, SETSPI_SR, 300, 0x60, 0x60);
-    changes(NonSecure, CLRSPI_SR, 300, 0x62, 0x62);
 }
 
 #[test]

@@ -90,7 +90,7 @@ fn implemented(shape: Shape, lent: &Lent, intid: u32) -> bool {
 }
 
 fn non_secure(byte: u8) -> bool {
-    byte & 0xC0 == 0x40
+    byte & 0x40 != 0
 }
 
 /// What one step may have done, seen on all records.

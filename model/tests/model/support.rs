@@ -79,6 +79,18 @@ pub fn access(frame: Frame, side: Side, write: bool, width: u32, offset: u32, va
     }
 }
 
+pub fn wire(intid: u32, level: bool) -> Step {
+    Step::Wire { intid, level }
+}
+
+pub fn activate(side: Side, intid: u32) -> Step {
+    Step::Activate { side, intid }
+}
+
+pub fn deactivate(side: Side, intid: u32) -> Step {
+    Step::Deactivate { side, intid }
+}
+
 /// Lent tables, what they should be, and a machine that was loaded once.
 pub struct Bench {
     shape: Shape,

@@ -131,18 +131,18 @@ fn words_past_the_shape_are_done_and_do_nothing() {
 
 #[test]
 fn security_is_asked_for_each_bit() {
-    // Group 0, Secure Group 1, Non-secure, and both bits 1, which is Secure.
+    // Group 0, Secure Group 1; group alone and both bits 1, which are Non-secure.
     let start = [(300, 0x20), (301, 0xA0), (302, 0x60), (303, 0xE0)];
     for (set, clear, bit) in PAIRS {
         let mut bench = Bench::with(0x00, &start);
         let step = write(Distributor, NonSecure, set + 0x24, 0xF000);
-        bench.does(step, &[(302, 0x60 | bit)]);
+        bench.does(step, &[(302, 0x60 | bit), (303, 0xE0 | bit)]);
         let all: Vec<(u32, u8)> = start.iter().map(|(m, byte)| (*m, byte | bit)).collect();
         bench.does(write(Distributor, Secure, set + 0x24, 0xF000), &all);
         bench.only_answers(read(Distributor, Secure, clear + 0x24), value(0xF000));
-        bench.only_answers(read(Distributor, NonSecure, clear + 0x24), value(0x4000));
+        bench.only_answers(read(Distributor, NonSecure, clear + 0x24), value(0xC000));
         let step = write(Distributor, NonSecure, clear + 0x24, u32::MAX);
-        bench.does(step, &[(302, 0x60)]);
+        bench.does(step, &[(302, 0x60), (303, 0xE0)]);
     }
 }
 

@@ -188,8 +188,6 @@ fn family(home: Home, n: &Numbers) -> (usize, Step) {
         _ => 4,
     };
     let value = written(1 << bit, n);
-    // Modifier bits of 0 make the homes Non-secure more often than not.
-    let value = if family == 7 { !value } else { value };
     let step = access(n, frame, width, offset, value);
     (class as usize, step)
 }

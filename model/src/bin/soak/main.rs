@@ -133,7 +133,7 @@ fn soak(plan: &Plan, out: &mut impl Write) -> io::Result<()> {
 fn main() -> ExitCode {
     let word = std::env::args().nth(1);
     let Some(wrong) = Wrong::from_word(word.as_deref()) else {
-        eprintln!("soak: no word but --wrong-record and --wrong-answer is known");
+        eprintln!("soak: no word but --wrong-record, --wrong-answer and --wrong-side is known");
         return ExitCode::FAILURE;
     };
     let mut text = String::new();

@@ -217,7 +217,7 @@ impl Fill {
             let any = (self.0 >> 24) as u8;
             bytes.push(match mode {
                 0 => 0,
-                1 => (any % 128) | 64,
+                1 => any | 64,
                 _ => any,
             });
         }

@@ -1,7 +1,7 @@
 //! Models that are wrong on purpose, in one bit and in a rare case, so that the
 //! comparison can be seen to find them.
 
-use berduzhika_model::{Answer, Step};
+use berduzhika_model::{Answer, Refusal, Side, Step};
 
 use crate::table::Table;
 
@@ -13,6 +13,9 @@ pub enum Wrong {
     Record,
     /// A read of Distributor ISPENDR word 31 also shows bit 28, where no interrupt is.
     Answer,
+    /// An activation of an interrupt with both grouping bits 1 by the Non-secure
+    /// side is told 7, as if the pair were Secure.
+    Side,
 }
 
 impl Wrong {
@@ -21,6 +24,7 @@ impl Wrong {
             None => Some(Wrong::Nowhere),
             Some("--wrong-record") => Some(Wrong::Record),
             Some("--wrong-answer") => Some(Wrong::Answer),
+            Some("--wrong-side") => Some(Wrong::Side),
             Some(_) => None,
         }
     }
@@ -41,6 +45,15 @@ impl Wrong {
                     ..
                 },
             ) if answer.status == 0 => Answer::done(answer.value | 1 << 28),
+            (
+                Wrong::Side,
+                Step::Activate {
+                    side: Side::NonSecure,
+                    intid,
+                },
+            ) if answer.status == 0 && table.record(intid) & 0xC0 == 0xC0 => {
+                Answer::refused(Refusal::NotNamed)
+            }
             _ => answer,
         }
     }
