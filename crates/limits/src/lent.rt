@@ -7,7 +7,7 @@ use types::Frame;
 use types::Shape;
 use types::Side;
 
-fn bench() -> Shape {
+pub fn bench() -> Shape {
     Shape::new(9, 4, 1, true)
 }
 

@@ -1,8 +1,9 @@
-// Document 01's "Limits" line and more edges, run on the compiled controller. Each line says the request and its answer.
-// The expected output (stdout) is written from document 01 and not from this program.
+// Document 01's "Limits" line and more edges, and the cases of document 02's requests, run on the compiled controller. Each line says
+// the request and its answer. The expected output (stdout) is written from the two documents and not from this program.
 use types::Side;
 
 mod fresh;
+mod grouping;
 mod lent;
 mod print;
 
@@ -101,4 +102,5 @@ fn main() {
     lent::run();
     lent::lengths();
     missing();
+    grouping::run();
 }

@@ -1,0 +1,121 @@
+// Document 02, CR 2: an interrupt is Non-secure exactly when group is 1, whatever the modifier. Each case is a record of SPI 300, which
+// is slot 268 and bit 12 of word 9, and what is asked then; all other records are 0. 192 is both bits, 64 group and 128 modifier alone.
+use crate::lent::bench;
+use crate::print::answer;
+use crate::print::number;
+use types::Access;
+use types::Frame;
+use types::Side;
+
+const ALL: u32 = 4294967295;
+
+const IGROUPR9: u32 = 0x0A4;
+
+const ISENABLER9: u32 = 0x124;
+
+const ISPENDR9: u32 = 0x224;
+
+const ISACTIVER9: u32 = 0x324;
+
+const IGRPMODR9: u32 = 0xD24;
+
+fn read(side: Side, at: u32) -> Access {
+    Access::read(Frame::Dist, side, 4, at)
+}
+
+fn say(record: u8, label: &[u8]) {
+    number(b"record=", record as u32);
+    io::write_all(1, label);
+}
+
+// A read.
+fn shown(record: u8, label: &[u8], side: Side, at: u32) {
+    let mut d = [0u8; 2012];
+    let mut r = [0u8; 96];
+    let dp = [ALL; 63];
+    let rp = [ALL; 3];
+    d[268] = record;
+    say(record, label);
+    let request = read(side, at);
+    answer(controller::access(&mut d, &mut r, &dp, &rp, bench(), request));
+}
+
+// A write, and what the Non-secure side then reads.
+fn written(record: u8, label: &[u8], request: Access, name: &[u8], at: u32) {
+    let mut d = [0u8; 2012];
+    let mut r = [0u8; 96];
+    let dp = [ALL; 63];
+    let rp = [ALL; 3];
+    d[268] = record;
+    say(record, label);
+    answer(controller::access(&mut d, &mut r, &dp, &rp, bench(), request));
+    io::write_all(1, b"then Non-secure reads ");
+    io::write_all(1, name);
+    let then = read(Side::NonSecure, at);
+    answer(controller::access(&mut d, &mut r, &dp, &rp, bench(), then));
+}
+
+// The Non-secure side activates 300, and deactivates it. What it reads in between, and after.
+fn taken(record: u8) {
+    let mut d = [0u8; 2012];
+    let mut r = [0u8; 96];
+    let dp = [ALL; 63];
+    let rp = [ALL; 3];
+    d[268] = record;
+    let side = Side::NonSecure;
+    say(record, b" Non-secure activates 300");
+    answer(controller::activate(&mut d, &mut r, &dp, &rp, bench(), side, 300));
+    io::write_all(1, b"then Non-secure reads ISACTIVER9");
+    answer(controller::access(&mut d, &mut r, &dp, &rp, bench(), read(side, ISACTIVER9)));
+    io::write_all(1, b"then Non-secure deactivates 300");
+    answer(controller::deactivate(&mut d, &mut r, &dp, &rp, bench(), side, 300));
+    io::write_all(1, b"then Non-secure reads ISACTIVER9");
+    answer(controller::access(&mut d, &mut r, &dp, &rp, bench(), read(side, ISACTIVER9)));
+}
+
+// The stored bits read back to the Secure side, and to no other.
+fn stored() {
+    shown(192, b" Secure reads IGROUPR9", Side::Secure, IGROUPR9);
+    shown(192, b" Secure reads IGRPMODR9", Side::Secure, IGRPMODR9);
+    shown(
+        192,
+        b" Non-secure reads IGROUPR9",
+        Side::NonSecure,
+        IGROUPR9,
+    );
+    shown(
+        192,
+        b" Non-secure reads IGRPMODR9",
+        Side::NonSecure,
+        IGRPMODR9,
+    );
+}
+
+// By the Non-secure side; 4096 is 300's bit.
+fn set(record: u8, label: &[u8], name: &[u8], at: u32) {
+    let request = Access::write(Frame::Dist, Side::NonSecure, 4, at, 4096);
+    written(record, label, request, name, at);
+}
+
+// Writes of one of the two bits by the Secure side; 300 is enabled.
+fn regroup(record: u8, label: &[u8], at: u32, value: u32) {
+    let request = Access::write(Frame::Dist, Side::Secure, 4, at, value);
+    written(record, label, request, b"ISENABLER9", ISENABLER9);
+}
+
+pub fn run() {
+    stored();
+    set(
+        192,
+        b" Non-secure writes ISENABLER9",
+        b"ISENABLER9",
+        ISENABLER9,
+    );
+    set(192, b" Non-secure writes ISPENDR9", b"ISPENDR9", ISPENDR9);
+    set(128, b" Non-secure writes ISPENDR9", b"ISPENDR9", ISPENDR9);
+    taken(195);
+    taken(131);
+    regroup(193, b" Secure writes IGRPMODR9 with 0", IGRPMODR9, 0);
+    regroup(65, b" Secure writes IGRPMODR9 with 4096", IGRPMODR9, 4096);
+    regroup(193, b" Secure writes IGROUPR9 with 0", IGROUPR9, 0);
+}
