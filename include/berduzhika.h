@@ -11,6 +11,9 @@
  *     redist_presence     3 words     which SGIs and PPIs exist     only read
  *     lines espi eppi mbis            the shape: 0 to 31, 0 to 32, 0 to 2, and 0 or 1
  *
+ * A record is a byte, by value: 1 enabled, 2 latch, 4 wire, 8 message level, 16 active, 32 edge, 64 group, 128 modifier. Every byte has
+ * a meaning. An interrupt is Non-secure exactly when its group bit is 1, whatever its modifier bit; otherwise it is Secure.
+ *
  * The caller owes what C cannot check: no pointer is null, each has as many elements behind it as its length says, and no two tables
  * overlap. Everything else is answered: no number and no length is off limits, and any bad one is refused. Two calls may run at the
  * same time where they share no table that is written.

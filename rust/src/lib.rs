@@ -36,6 +36,9 @@ pub struct Shape {
 }
 
 /// The four tables: a record byte for each interrupt, and a bit that says whether it exists.
+///
+/// A record has, by value: 1 enabled, 2 latch, 4 wire, 8 message level, 16 active, 32 edge, 64 group, 128 modifier. Every byte has a
+/// meaning. An interrupt is Non-secure exactly when its group bit is 1, whatever its modifier bit; otherwise it is Secure.
 #[derive(Clone, Debug, PartialEq, Eq)]
 pub struct Tables {
     pub dist: [u8; 2012],

@@ -1,4 +1,4 @@
-//! Document 01's cases, through the wrapper: that it asks for what it says, and hands every answer on as it came.
+//! Cases of documents 01 and 02, through the wrapper: that it asks for what it says, and hands every answer on as it came.
 use berduzhika::{Access, Controller, Event, Frame, Refusal, Shape, Side, Tables};
 
 const BENCH: Shape = Shape {
@@ -109,6 +109,27 @@ fn k12_activate_once() {
     };
     assert_eq!(c.event(deactivate), Ok(()));
     assert_eq!(c, bench(&[(300, 0x61)]));
+}
+
+// Document 02, CR 2: both grouping bits set is Non-secure, and the modifier alone is Secure.
+#[test]
+fn both_grouping_bits() {
+    let activate = Event::Activate {
+        side: Side::NonSecure,
+        intid: 300,
+    };
+    let mut c = bench(&[(300, 0xE1)]);
+    ns_write(&mut c, 0x224, 0x1000);
+    assert_eq!(c, bench(&[(300, 0xE3)]));
+    assert_eq!(read(&mut c, Side::NonSecure, 0x224), Ok(0x1000));
+    assert_eq!(read(&mut c, Side::NonSecure, 0xD24), Ok(0));
+    assert_eq!(read(&mut c, Side::Secure, 0xD24), Ok(0x1000));
+    assert_eq!(c.event(activate), Ok(()));
+    assert_eq!(c, bench(&[(300, 0xF1)]));
+    let mut c = bench(&[(300, 0xA3)]);
+    assert_eq!(read(&mut c, Side::NonSecure, 0x224), Ok(0));
+    assert_eq!(c.event(activate), Err(Refusal::Intid));
+    assert_eq!(c, bench(&[(300, 0xA3)]));
 }
 
 #[test]
