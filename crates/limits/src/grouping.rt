@@ -55,8 +55,8 @@ fn written(record: u8, label: &[u8], request: Access, name: &[u8], at: u32) {
     answer(controller::access(&mut d, &mut r, &dp, &rp, bench(), then));
 }
 
-// The Non-secure side activates 300, and deactivates it. What it reads in between, and after.
-fn taken(record: u8) {
+// The Non-secure side activates 300, and what it then reads.
+fn activated(record: u8) {
     let mut d = [0u8; 2012];
     let mut r = [0u8; 96];
     let dp = [ALL; 63];
@@ -66,11 +66,22 @@ fn taken(record: u8) {
     say(record, b" Non-secure activates 300");
     answer(controller::activate(&mut d, &mut r, &dp, &rp, bench(), side, 300));
     io::write_all(1, b"then Non-secure reads ISACTIVER9");
-    answer(controller::access(&mut d, &mut r, &dp, &rp, bench(), read(side, ISACTIVER9)));
-    io::write_all(1, b"then Non-secure deactivates 300");
+    let then = read(side, ISACTIVER9);
+    answer(controller::access(&mut d, &mut r, &dp, &rp, bench(), then));
+}
+
+fn deactivated(record: u8) {
+    let mut d = [0u8; 2012];
+    let mut r = [0u8; 96];
+    let dp = [ALL; 63];
+    let rp = [ALL; 3];
+    d[268] = record;
+    let side = Side::NonSecure;
+    say(record, b" Non-secure deactivates 300");
     answer(controller::deactivate(&mut d, &mut r, &dp, &rp, bench(), side, 300));
     io::write_all(1, b"then Non-secure reads ISACTIVER9");
-    answer(controller::access(&mut d, &mut r, &dp, &rp, bench(), read(side, ISACTIVER9)));
+    let then = read(side, ISACTIVER9);
+    answer(controller::access(&mut d, &mut r, &dp, &rp, bench(), then));
 }
 
 // The stored bits read back to the Secure side, and to no other.
@@ -113,8 +124,10 @@ pub fn run() {
     );
     set(192, b" Non-secure writes ISPENDR9", b"ISPENDR9", ISPENDR9);
     set(128, b" Non-secure writes ISPENDR9", b"ISPENDR9", ISPENDR9);
-    taken(195);
-    taken(131);
+    activated(195);
+    activated(131);
+    deactivated(209);
+    deactivated(145);
     regroup(193, b" Secure writes IGRPMODR9 with 0", IGRPMODR9, 0);
     regroup(65, b" Secure writes IGRPMODR9 with 4096", IGRPMODR9, 4096);
     regroup(193, b" Secure writes IGROUPR9 with 0", IGROUPR9, 0);
