@@ -11,9 +11,9 @@ use Rattle.types.specs.declared.Shape.{Shape}
 use Rattle.types.specs.declared.Family.{Family}
 use Rattle.types.specs.declared.Family.the-variants.{Igroupr, Isenabler, Icenabler, Ispendr, Icpendr, Isactiver, Icactiver, Igrpmodr, Icfgr}
 use Rattle.meaning.specs.Cell.{Cell, get, put, decode, encode, nonSecure, sgi, edgeOf, pending}
-use Rattle.meaning.specs.Rule.{gated, grouping, setter, mayTouch, setting, clearing, retriggered, otherTrigger, fixedField, configured}
+use Rattle.meaning.specs.Rule.{gated, grouping, setter, mayTouch, setting, clearing, retriggered, otherTrigger, fixedField}
 use Rattle.meaning.specs.Rule.{update, shows, reaches, touched, visible, messageSet, messageCleared, rises, wired, activated}
-use Rattle.meaning.specs.Rule.{deactivated, reset, act}
+use Rattle.meaning.specs.Rule.{configured, deactivated, reset, act}
 use Rattle.meaning.proofs.Bytes.{digit-back}
 use Rattle.meaning.proofs.Cells.{gated-true, gated-false}
 
