@@ -8,7 +8,7 @@ use types::Shape;
 use types::Side;
 
 // Words of presence: every interrupt, and every one but the first.
-const ALL: u32 = 4294967295;
+pub const ALL: u32 = 4294967295;
 
 const FEWER: u32 = 4294967294;
 

@@ -1,13 +1,12 @@
 // Document 02, CR 2: an interrupt is Non-secure exactly when group is 1, whatever the modifier. Each case is a record of SPI 300, which
 // is slot 268 and bit 12 of word 9, and what is asked then; all other records are 0. 192 is both bits, 64 group and 128 modifier alone.
+use crate::fresh::ALL;
 use crate::lent::bench;
 use crate::print::answer;
 use crate::print::number;
 use types::Access;
 use types::Frame;
 use types::Side;
-
-const ALL: u32 = 4294967295;
 
 const IGROUPR9: u32 = 0x0A4;
 
@@ -28,7 +27,7 @@ fn say(record: u8, label: &[u8]) {
     io::write_all(1, label);
 }
 
-// A read.
+// What a side reads.
 fn shown(record: u8, label: &[u8], side: Side, at: u32) {
     let mut d = [0u8; 2012];
     let mut r = [0u8; 96];

@@ -1,4 +1,5 @@
--- Document 01's "Effects", sentence by sentence, as laws of the rule. Where Rule.antt were wrong, one of these would fail.
+-- Document 01's "Effects", sentence by sentence, as laws of the rule, and what document 02's CR 2 says of the two grouping bits. Where
+-- Rule.antt were wrong, or `nonSecure` of Cell.antt, one of these would fail.
 use mathlib.Core.Path.{_≡_, refl, sym, ap, _∙_, subst⁻¹}
 use mathlib.Core.Bool.{Bool, true, false, cond, not, _&&_, _||_, Bool·beq}
 use Prim.Native.Nat.{ℕ}

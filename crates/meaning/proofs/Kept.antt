@@ -141,7 +141,7 @@ pub presence-kept : (s : Shape) (q : Step) (m : ℕ) (c : Cell) → (act s q m c
 unfolding presence
 presence-kept s q m c = act-kept presence (λ b h v d. presence-blind .put-kept b v d) s q m c (λ t. presence-blind)
 
--- which side an interrupt is on is told by its two grouping bits, whatever it is that they tell
+-- which side an interrupt is on is told by its grouping, and by no other bit of its record
 steady-side : (b : Bit) → state b ≡ true → (v : Bool) (c : Cell) → nonSecure (put b v c) ≡ nonSecure c
 unfolding nonSecure put
 steady-side Enabled h v c = refl

@@ -1,5 +1,5 @@
-//! Models that are wrong on purpose, in one bit and in a rare case, so that the
-//! comparison can be seen to find them.
+//! Models that are wrong on purpose, in one bit or one answer and in a rare case,
+//! so that the comparison can be seen to find them.
 
 use berduzhika_model::{Answer, Refusal, Side, Step};
 
@@ -7,7 +7,7 @@ use crate::table::Table;
 
 #[derive(Clone, Copy)]
 pub enum Wrong {
-    /// As document 01 has it.
+    /// As documents 01 and 02 have it.
     Nowhere,
     /// Activation also clears message level.
     Record,
