@@ -1,161 +1,162 @@
--- What every step keeps of an interrupt: presence always, and its side unless the step regroups.
--- Both are one fact over a view of the cell that does not look at the bits that the step writes.
-use mathlib.Core.Path.{_≡_, refl, _∙_, ap, ap₂}
+-- WHAT A DEED KEEPS of an interrupt: presence always; its side unless the deed regroups; what is above the record's bits unless it is
+-- a reset. One law, over any view of the cell that does not look at the state bits.
+--   performed-kept   a deed that rewrites none of the guards that the view looks at keeps the view
+--   presence-kept, rest-kept, side-kept, owned-kept   the views
+use mathlib.Core.Path.{_≡_, refl, _∙_, ap₂}
 use mathlib.Core.Bool.{Bool, true, false, not, _&&_, _||_, Bool·beq}
-use Prim.Native.Nat.{ℕ, _-_}
-use lib.Dec.{eqb}
-use borrow.Author.Tests.{not-true}
-use Rattle.lists.specs.Word.{digitAt}
-use Rattle.lists.proofs.Bools.{and-left, and-right, both, clash}
+use Prim.Native.Nat.{ℕ}
+use lib.Dec.{leb}
+use Rattle.lists.proofs.Bools.{and-left, and-right, clash}
 use Rattle.types.specs.declared.Side.{Side}
 use Rattle.types.specs.declared.Side.the-variants.{Secure, NonSecure}
 use Rattle.types.specs.declared.Shape.{Shape}
-use Rattle.types.specs.declared.Way.{Way}
-use Rattle.types.specs.declared.Way.the-variants.{Read, Write}
-use Rattle.types.specs.declared.Access.{Access}
-use Rattle.types.specs.declared.Family.{Family}
-use Rattle.types.specs.declared.Family.the-variants.{Igroupr, Isenabler, Icenabler, Ispendr, Icpendr, Isactiver, Icactiver, Igrpmodr, Icfgr}
-use Rattle.types.specs.declared.Message as message
-use Rattle.types.specs.declared.Place.{Place}
-use Rattle.types.specs.declared.Place.the-variants as place
-use Rattle.types.specs.declared.Decoded.{Decoded}
-use Rattle.types.specs.declared.Decoded.the-variants as decoded
+use Rattle.types.specs.declared.Way.the-variants.{Write}
 use Rattle.types.specs.declared.Bit.{Bit}
 use Rattle.types.specs.declared.Bit.the-variants.{Enabled, Latch, Wire, MessageLevel, Active, Edge, Group, Modifier}
-use Rattle.meaning.specs.Cell.{Cell, get, put, decode, nonSecure, edgeOf, pending}
-use Rattle.meaning.specs.Registers.{digitBits, placeOf, writtenValue, first, names}
-use Rattle.meaning.specs.Rule.{Step, access, wire, activate, deactivate, reset, gated, sees, grouping, mayTouch, setting, clearing, retriggered, otherTrigger, fixedField, configured, update, reaches, touched, wordWritten, sets, maySend, addresses, delivered, messageSet, messageCleared, sent, messageWritten, written, accessed, wireAnswer, activateAnswer, deactivateAnswer, isDone, wired, activated, deactivated, act}
-use Rattle.meaning.specs.Sides.{owned, secure, writes, groupingAt, regroups}
-use Rattle.meaning.proofs.Cells.{gated-keeps, gated-both}
+use Rattle.types.specs.declared.Switch.{Switch}
+use Rattle.types.specs.declared.Switch.the-variants as switch
+use Rattle.types.specs.declared.Guard.{Guard}
+use Rattle.types.specs.declared.Guard.the-variants as guard
+use Rattle.types.specs.declared.Kind.{Kind}
+use Rattle.types.specs.declared.Kind.the-variants.{Switched, Guarded, Trigger}
+use Rattle.types.specs.declared.Message.{Message}
+use Rattle.types.specs.declared.Event.{Event}
+use Rattle.types.specs.declared.Event.the-variants as event
+use Rattle.meaning.specs.Interrupt.{Interrupt}
+use Rattle.meaning.specs.Cell.{Cell, put, decode, nonSecure, owned, edgeOf, pending}
+use Rattle.meaning.specs.Registers.{kindOf}
+use Rattle.meaning.specs.Rule.{Deed, idle, write, send, happen, clear, secureKind, mayTouch, reaches, bitOf, switched, guarded}
+use Rattle.meaning.specs.Rule.{fixedField, configured, update, sets, sent, happened, aims, admits, effect, performed}
+use Rattle.meaning.proofs.Choices.{cond-keeps, cond-both, not-false}
+use Rattle.meaning.proofs.Sides.{isClear, bySecure, onGuard, rewrites, regroups}
 
--- every bit but group and modifier
-abbrev state : Bit → Bool
-state Enabled = true
-state Latch = true
-state Wire = true
-state MessageLevel = true
-state Active = true
-state Edge = true
-state Group = false
-state Modifier = false
+-- the bit is a guard, or one of those that deeds of every day write
+abbrev guarding : (Guard → Bool) → Bit → Bool
+guarding p Group = p guard.Group
+guarding p Modifier = p guard.Modifier
+guarding p Enabled = false
+guarding p Latch = false
+guarding p Wire = false
+guarding p MessageLevel = false
+guarding p Active = false
+guarding p Edge = false
 
--- the view g does not look at the state bits
-abbrev Steady : (Cell → Bool) → Type 0
-Steady g = (b : Bit) → state b ≡ true → (v : Bool) (c : Cell) → g (put b v c) ≡ g c
+-- the view looks at no bit outside the guards p
+abbrev Blind : {A : Type 0} → (Cell → A) → (Guard → Bool) → Type 0
+Blind g p = (b : Bit) → guarding p b ≡ false → (v : Bool) (c : Cell) → g (put b v c) ≡ g c
 
--- the view g does not look at the record at all
-pub record Blind (g : Cell → Bool) : Type 0 where
-  pub put-kept : (b : Bit) (v : Bool) (c : Cell) → g (put b v c) ≡ g c
-  pub zero-kept : (c : Cell) → g (decode (c .implemented) 0) ≡ g c
+module _ {A : Type 0} (g : Cell → A) (p : Guard → Bool) (blind : Blind g p) (s : Shape) (i : Interrupt) (c : Cell) where
+  switch-kept : (b : Switch) (v : Bool) → g (put (bitOf b) v c) ≡ g c
+  switch-kept switch.Enable v = blind Enabled refl v c
+  switch-kept switch.Pending v = blind Latch refl v c
+  switch-kept switch.Active v = blind Active refl v c
 
-module _ (g : Cell → Bool) (steady : Steady g) where
-  set-kept : (b : Bit) → state b ≡ true → (d : ℕ) (c : Cell) → g (setting b d c) ≡ g c
-  unfolding setting
-  set-kept b h d c = steady b h (eqb d 1 || get b c) c
+  guard-kept : (x : Guard) (v : Bool) → p x ≡ false → g (put (guarded x) v c) ≡ g c
+  guard-kept guard.Group v h = blind Group h v c
+  guard-kept guard.Modifier v h = blind Modifier h v c
 
-  clear-kept : (b : Bit) → state b ≡ true → (d : ℕ) (c : Cell) → g (clearing b d c) ≡ g c
-  unfolding clearing
-  clear-kept b h d c = steady b h (not (eqb d 1) && get b c) c
+  update-kept : (side : Side) (k : Kind) (d : ℕ) → onGuard p k ≡ false → g (update s side k d i c) ≡ g c
+  unfolding update switched configured
+  update-kept side (Switched on b) d h = switch-kept b _
+  update-kept side (Guarded x) d h = guard-kept x _ h
+  update-kept side Trigger d h =
+      cond-both g (fixedField i c || Bool·beq (leb 2 d) (c .edge)) c _ refl
+      (blind Edge refl _ _ ∙ (blind Latch refl _ _ ∙ blind MessageLevel refl _ c))
 
-  retriggered-kept : (e : Bool) (c : Cell) → g (retriggered e c) ≡ g c
-  unfolding retriggered otherTrigger
-  retriggered-kept e c =
-      gated-both g (Bool·beq e (c .edge)) c (otherTrigger e c) refl
-      (steady Edge refl _ _ ∙ (steady Latch refl _ _ ∙ steady MessageLevel refl _ _))
-
-  -- a write of any family, where a grouping family asks more
-  update-kept : (f : Family) (d m : ℕ) (c : Cell) → (grouping f ≡ true → Blind g) → g (update f d m c) ≡ g c
-  unfolding update configured
-  update-kept Igroupr d m c h = h refl .put-kept Group (eqb d 1) c
-  update-kept Isenabler d m c h = set-kept Enabled refl d c
-  update-kept Icenabler d m c h = clear-kept Enabled refl d c
-  update-kept Ispendr d m c h = set-kept Latch refl d c
-  update-kept Icpendr d m c h = clear-kept Latch refl d c
-  update-kept Isactiver d m c h = set-kept Active refl d c
-  update-kept Icactiver d m c h = clear-kept Active refl d c
-  update-kept Igrpmodr d m c h = h refl .put-kept Modifier (eqb d 1) c
-  update-kept Icfgr d m c h = gated-both g (fixedField m c) c (retriggered _ c) refl (retriggered-kept _ c)
-
-  -- the Non-secure side's writes to a grouping family do nothing
-  touched-kept : (side : Side) (f : Family) (d m : ℕ) (c : Cell) → ((secure side && grouping f) ≡ true → Blind g) → g (touched side f d m c) ≡ g c
-  unfolding touched reaches mayTouch
-  touched-kept Secure f d m c h = gated-keeps g (c .implemented && true) (update f d m c) c (λ t. update-kept f d m c h)
-  touched-kept NonSecure f d m c h =
-      gated-keeps g (c .implemented && (not (grouping f) && sees NonSecure c)) (update f d m c) c
-      (λ t. update-kept f d m c (λ k. absurd (clash k (not-true (grouping f) (and-left (not (grouping f)) (sees NonSecure c) (and-right (c .implemented) (not (grouping f) && sees NonSecure c) t))))))
-
-  word-kept : (side : Side) (f : Family) (p : Place) (v m : ℕ) (c : Cell) → ((secure side && grouping f) ≡ true → Blind g) → g (wordWritten side f p v m c) ≡ g c
-  unfolding wordWritten
-  word-kept side f p v m c h =
-      gated-both g (names p m) (touched side f (digitAt (digitBits f) (m - first p) v) m c) c
-      (touched-kept side f (digitAt (digitBits f) (m - first p) v) m c h) refl
-
-  sent-kept : (k : message.Message) (m : ℕ) (c : Cell) → g (sent k m c) ≡ g c
-  unfolding sent messageSet messageCleared
-  sent-kept k m c =
-      gated-both g (sets k) (messageSet m c) (messageCleared m c)
-      (gated-both g (pending m c) c (gated (edgeOf m c) (put Latch true c) (put MessageLevel true c)) refl (either true)) (either false)
+  -- a guard that only the Secure side may write
+  write-kept : (side : Side) (k : Kind) (d : ℕ) → bySecure side (onGuard p k) ≡ false → reaches s side Write k i c ≡ true
+      → g (update s side k d i c) ≡ g c
+  unfolding reaches mayTouch
+  write-kept Secure k d h t = update-kept Secure k d h
+  write-kept NonSecure k d h t =
+      update-kept NonSecure k d (no-guard k (not-false (secureKind k) (and-left (not (secureKind k)) _ (and-right (c .implemented) _ t))))
     where
-      either : (v : Bool) → g (gated (edgeOf m c) (put Latch v c) (put MessageLevel v c)) ≡ g c
-      either v = gated-both g (edgeOf m c) (put Latch v c) (put MessageLevel v c) (steady Latch refl v c) (steady MessageLevel refl v c)
+      no-guard : (k : Kind) → secureKind k ≡ false → onGuard p k ≡ false
+      no-guard (Switched on b) h = refl
+      no-guard (Guarded x) h = absurd (clash refl h)
+      no-guard Trigger h = refl
 
-  written-kept : (s : Shape) (side : Side) (p : Place) (v m : ℕ) (c : Cell) → ((secure side && groupingAt (decoded.At p)) ≡ true → Blind g) → g (written s side p v m c) ≡ g c
-  unfolding written messageWritten delivered
-  written-kept s side (place.Word r f n) v m c h = word-kept side f (place.Word r f n) v m c h
-  written-kept s side (place.Extended r f n) v m c h = word-kept side f (place.Extended r f n) v m c h
-  written-kept s side place.Typer v m c h = refl
-  written-kept s side (place.Message k) v m c h =
-      gated-both g (addresses s v m) (delivered side k m c) c
-      (gated-both g (c .implemented && maySend side k c) (sent k m c) c (sent-kept k m c) refl) refl
+  sent-kept : (k : Message) → g (sent s k i c) ≡ g c
+  unfolding sent
+  sent-kept k =
+      cond-both g (sets k && pending s i c) c _ refl
+      (cond-both g (edgeOf i c) _ _ (blind Latch refl _ c) (blind MessageLevel refl _ c))
 
-  accessed-kept : (s : Shape) (a : Access) (d : Decoded) (m : ℕ) (c : Cell) → ((secure (a .side) && (writes (a .way) && groupingAt d)) ≡ true → Blind g) → g (accessed s a d m c) ≡ g c
-  accessed-kept s a (decoded.Refused r) m c h = refl
-  accessed-kept s a (decoded.At p) m c h = by-way (a .way) h
+  happened-kept : (e : Event) → g (happened s e i c) ≡ g c
+  unfolding happened
+  happened-kept (event.Wire level) = blind Latch refl _ _ ∙ blind Wire refl _ c
+  happened-kept (event.Activate side) = blind Active refl _ _ ∙ blind Latch refl _ c
+  happened-kept (event.Deactivate side) = blind Active refl _ c
+
+  -- THE LAW
+  pub performed-kept : (d : Deed) → rewrites p d ≡ false → g (performed s d i c) ≡ g c
+  unfolding performed effect admits rewrites
+  performed-kept d h =
+      cond-keeps g (aims s d i && admits s d i c) (effect s d i c) c (λ t. by d h (and-right (aims s d i) (admits s d i c) t))
     where
-      by-way : (w : Way) → ((secure (a .side) && (writes w && groupingAt (decoded.At p))) ≡ true → Blind g) → g (elim w [ Read ↦ c | Write ↦ written s (a .side) p (writtenValue (a .width) (a .value)) m c ]) ≡ g c
-      by-way Read k = refl
-      by-way Write k = written-kept s (a .side) p (writtenValue (a .width) (a .value)) m c k
+      by : (d : Deed) → rewrites p d ≡ false → admits s d i c ≡ true → g (effect s d i c) ≡ g c
+      by idle h t = refl
+      by (write side w v) h t = write-kept side (kindOf (w .family)) _ h t
+      by (send side k v) h t = sent-kept k
+      by (happen e m) h t = happened-kept e
+      by clear h t = absurd (clash refl h)
 
-  act-kept : (s : Shape) (q : Step) (m : ℕ) (c : Cell) → (regroups q ≡ true → Blind g) → g (act s q m c) ≡ g c
-  unfolding act regroups wired activated deactivated
-  act-kept s (access a) m c h = accessed-kept s a (placeOf (a .frame) (a .width) (a .offset)) m c h
-  act-kept s (wire k level) m c h =
-      gated-keeps g (eqb k m && isDone (wireAnswer m c)) (wired level m c) c
-      (λ t. steady Latch refl _ _ ∙ steady Wire refl _ _)
-  act-kept s (activate side k) m c h =
-      gated-keeps g (eqb k m && isDone (activateAnswer side m c)) (activated c) c
-      (λ t. steady Active refl _ _ ∙ steady Latch refl _ _)
-  act-kept s (deactivate side k) m c h =
-      gated-keeps g (eqb k m && isDone (deactivateAnswer side m c)) (deactivated c) c (λ t. steady Active refl _ _)
-  act-kept s reset m c h = h refl .zero-kept c
+-- THE VIEWS
+blind-presence : Blind (λ (c : Cell). c .implemented) (λ x. false)
+unfolding put
+blind-presence b h v c = refl
 
--- Three views: presence, which no step changes, and the two grouping bits, which only a step that regroups does.
-presence : Cell → Bool
-presence c = c .implemented
+blind-rest : Blind (λ (c : Cell). c .rest) (λ x. false)
+unfolding put
+blind-rest b h v c = refl
 
-presence-blind : Blind presence
-unfolding presence put decode
-presence-blind = record { put-kept = λ b v c. refl; zero-kept = λ c. refl }
+blind-side : Blind nonSecure (λ x. true)
+unfolding put nonSecure
+blind-side Group h v c = absurd (clash refl h)
+blind-side Modifier h v c = refl
+blind-side Enabled h v c = refl
+blind-side Latch h v c = refl
+blind-side Wire h v c = refl
+blind-side MessageLevel h v c = refl
+blind-side Active h v c = refl
+blind-side Edge h v c = refl
 
-pub presence-kept : (s : Shape) (q : Step) (m : ℕ) (c : Cell) → (act s q m c) .implemented ≡ c .implemented
-unfolding presence
-presence-kept s q m c = act-kept presence (λ b h v d. presence-blind .put-kept b v d) s q m c (λ t. presence-blind)
+-- a view that looks at no guard is rewritten by a reset alone
+no-guards : (d : Deed) → isClear d ≡ false → rewrites (λ x. false) d ≡ false
+unfolding rewrites
+no-guards idle r = refl
+no-guards (write side w v) r = by side (kindOf (w .family))
+  where
+    by : (side : Side) (k : Kind) → bySecure side (onGuard (λ x. false) k) ≡ false
+    by Secure (Switched on b) = refl
+    by Secure (Guarded x) = refl
+    by Secure Trigger = refl
+    by NonSecure k = refl
+no-guards (send side g v) r = refl
+no-guards (happen e m) r = refl
+no-guards clear r = r
 
--- which side an interrupt is on is told by its grouping, and by no other bit of its record
-steady-side : (b : Bit) → state b ≡ true → (v : Bool) (c : Cell) → nonSecure (put b v c) ≡ nonSecure c
-unfolding nonSecure put
-steady-side Enabled h v c = refl
-steady-side Latch h v c = refl
-steady-side Wire h v c = refl
-steady-side MessageLevel h v c = refl
-steady-side Active h v c = refl
-steady-side Edge h v c = refl
-steady-side Group h v c = absurd (clash h refl)
-steady-side Modifier h v c = absurd (clash h refl)
+module _ (s : Shape) (i : Interrupt) (c : Cell) where
+  pub presence-kept : (d : Deed) → (performed s d i c) .implemented ≡ c .implemented
+  unfolding performed aims admits effect decode
+  presence-kept d = by d
+    where
+      kept : (d : Deed) → isClear d ≡ false → (performed s d i c) .implemented ≡ c .implemented
+      kept d h = performed-kept (λ c. c .implemented) (λ x. false) blind-presence s i c d (no-guards d h)
 
-pub side-kept : (s : Shape) (q : Step) (m : ℕ) (c : Cell) → regroups q ≡ false → nonSecure (act s q m c) ≡ nonSecure c
-side-kept s q m c h = act-kept nonSecure steady-side s q m c (λ t. absurd (clash t h))
+      by : (d : Deed) → (performed s d i c) .implemented ≡ c .implemented
+      by idle = refl
+      by (write side w v) = kept (write side w v) refl
+      by (send side g v) = kept (send side g v) refl
+      by (happen e m) = kept (happen e m) refl
+      by clear = refl
 
-pub owned-kept : (s : Shape) (q : Step) (m : ℕ) (c : Cell) → regroups q ≡ false → owned (act s q m c) ≡ owned c
-unfolding owned
-owned-kept s q m c h = ap₂ (λ (a b : Bool). a && b) (presence-kept s q m c) (side-kept s q m c h)
+  pub rest-kept : (d : Deed) → isClear d ≡ false → (performed s d i c) .rest ≡ c .rest
+  rest-kept d r = performed-kept (λ c. c .rest) (λ x. false) blind-rest s i c d (no-guards d r)
+
+  pub side-kept : (d : Deed) → regroups d ≡ false → nonSecure (performed s d i c) ≡ nonSecure c
+  side-kept d r = performed-kept nonSecure (λ x. true) blind-side s i c d r
+
+  pub owned-kept : (d : Deed) → regroups d ≡ false → owned (performed s d i c) ≡ owned c
+  unfolding owned
+  owned-kept d r = ap₂ (λ (a b : Bool). a && b) (presence-kept d) (side-kept d r)

@@ -1,5 +1,8 @@
 -- What a step does to one interrupt, and what a read shows of it: document 01's "Effects".
--- m is the INTID, c its cell. Nothing here depends on any other interrupt.
+-- i is the interrupt, c its cell. Nothing here depends on any other interrupt.
+-- A step is a deed, and a deed is three things: at whom it aims (by the request alone), whether the interrupt's cell admits it
+-- (the gate), and its effect there.
+-- Some functions take a shape, a side, a way or an interrupt that they do not look at: document 02's requests will.
 use mathlib.Core.Bool.{Bool, true, false, cond, not, _&&_, _||_, Bool·beq}
 use Prim.Native.Nat.{ℕ, _*_, _-_, _%_}
 use lib.Dec.{eqb, leb}
@@ -9,35 +12,58 @@ use Rattle.types.specs.declared.Bit.the-variants.{Enabled, Latch, Wire, Message
 use Rattle.types.specs.declared.Side.{Side}
 use Rattle.types.specs.declared.Side.the-variants.{Secure, NonSecure}
 use Rattle.types.specs.declared.Shape.{Shape}
+use Rattle.types.specs.declared.Way.{Way}
 use Rattle.types.specs.declared.Way.the-variants.{Read, Write}
 use Rattle.types.specs.declared.Access.{Access}
-use Rattle.types.specs.declared.Family.{Family}
-use Rattle.types.specs.declared.Family.the-variants.{Igroupr, Isenabler, Icenabler, Ispendr, Icpendr, Isactiver, Icactiver, Igrpmodr, Icfgr}
+use Rattle.types.specs.declared.Switch.{Switch}
+use Rattle.types.specs.declared.Switch.the-variants as switch
+use Rattle.types.specs.declared.Guard.{Guard}
+use Rattle.types.specs.declared.Guard.the-variants as guard
+use Rattle.types.specs.declared.Kind.{Kind}
+use Rattle.types.specs.declared.Kind.the-variants.{Switched, Guarded, Trigger}
+use Rattle.types.specs.declared.Message.{Message}
 use Rattle.types.specs.declared.Message.the-variants.{SetspiNsr, ClrspiNsr, SetspiSr, ClrspiSr}
-use Rattle.types.specs.declared.Message as message
-use Rattle.types.specs.declared.Place.{Place}
-use Rattle.types.specs.declared.Place.the-variants as place
+use Rattle.types.specs.declared.Event.{Event}
+use Rattle.types.specs.declared.Event.the-variants as event
+use Rattle.types.specs.declared.Window.{Window}
+use Rattle.types.specs.declared.Target.{Target}
+use Rattle.types.specs.declared.Target.the-variants as target
 use Rattle.types.specs.declared.Refusal.the-variants as refusal
 use Rattle.types.specs.declared.Decoded.{Decoded}
 use Rattle.types.specs.declared.Decoded.the-variants as decoded
 use Rattle.types.specs.declared.Answer.{Answer}
 use Rattle.types.specs.declared.Answer.the-variants.{Done, Refused}
-use Rattle.meaning.specs.Cell.{Cell, get, put, decode, nonSecure, sgi, edgeOf, pending}
-use Rattle.meaning.specs.Layout.{spi}
-use Rattle.meaning.specs.Registers.{digitBits, placeOf, writtenValue, first, names}
+use Rattle.meaning.specs.Interrupt.{Interrupt, shared, own, intid, same, named, sgi}
+use Rattle.meaning.specs.Cell.{Cell, get, put, decode, nonSecure, edgeOf, pending}
+use Rattle.meaning.specs.Registers.{kindOf, bitsOf, placeOf, writtenValue, targetOf, names}
 
--- The steps of a monitor: accesses, wires, activations and deactivations, reset.
+-- The steps of a monitor: accesses, events on an INTID, reset.
 pub data Step : Type 0 where
   access : Access → Step
-  wire : ℕ → Bool → Step
-  activate : Side → ℕ → Step
-  deactivate : Side → ℕ → Step
+  happens : Event → ℕ → Step
   reset : Step
 
--- the cell after, where the gate is open
-abbrev pub gated : Bool → Cell → Cell → Cell
-gated true new old = new
-gated false new old = old
+-- What a step comes to, once it is decoded. Reads, refused accesses and TYPER writes are idle.
+pub data Deed : Type 0 where
+  idle : Deed
+  write : Side → Window → ℕ → Deed
+  send : Side → Message → ℕ → Deed
+  happen : Event → ℕ → Deed
+  clear : Deed
+
+abbrev pub writeTo : Side → ℕ → Target → Deed
+writeTo side v (target.Digits w) = write side w v
+writeTo side v target.Typer = idle
+writeTo side v (target.Message g) = send side g v
+
+abbrev pub accessed : Access → Decoded → Deed
+accessed a (decoded.Refused r) = idle
+accessed a (decoded.At p) = elim (a .way) [ Read ↦ idle | Write ↦ writeTo (a .side) (writtenValue a) (targetOf p) ]
+
+unfoldable pub deedOf : Step → Deed
+deedOf (access a) = accessed a (placeOf a)
+deedOf (happens e m) = happen e m
+deedOf reset = clear
 
 -- Bits of Secure interrupts read 0 and ignore writes for the Non-secure side, in every family.
 unfoldable pub sees : Side → Cell → Bool
@@ -45,199 +71,144 @@ sees Secure c = true
 sees NonSecure c = nonSecure c
 
 -- IGROUPR and IGRPMODR: the Non-secure side reads 0 and its writes do nothing.
-abbrev pub grouping : Family → Bool
-grouping Igroupr = true
-grouping Isenabler = false
-grouping Icenabler = false
-grouping Ispendr = false
-grouping Icpendr = false
-grouping Isactiver = false
-grouping Icactiver = false
-grouping Igrpmodr = true
-grouping Icfgr = false
+abbrev pub secureKind : Kind → Bool
+secureKind (Switched on b) = false
+secureKind (Guarded g) = true
+secureKind Trigger = false
 
-unfoldable pub mayTouch : Side → Family → Cell → Bool
-mayTouch Secure f c = true
-mayTouch NonSecure f c = not (grouping f) && sees NonSecure c
+unfoldable pub mayTouch : Side → Way → Kind → Interrupt → Cell → Bool
+mayTouch Secure w k i c = true
+mayTouch NonSecure w k i c = not (secureKind k) && sees NonSecure c
 
--- The set families, the clear families, and both.
-abbrev pub setter : Family → Bool
-setter Igroupr = false
-setter Isenabler = true
-setter Icenabler = false
-setter Ispendr = true
-setter Icpendr = false
-setter Isactiver = true
-setter Icactiver = false
-setter Igrpmodr = false
-setter Icfgr = false
+-- THE GATE of a digit: the interrupt is implemented, and the side may touch it.
+unfoldable pub reaches : Shape → Side → Way → Kind → Interrupt → Cell → Bool
+reaches s side w k i c = c .implemented && mayTouch side w k i c
 
-abbrev pub clearer : Family → Bool
-clearer Igroupr = false
-clearer Isenabler = false
-clearer Icenabler = true
-clearer Ispendr = false
-clearer Icpendr = true
-clearer Isactiver = false
-clearer Icactiver = true
-clearer Igrpmodr = false
-clearer Icfgr = false
-
-abbrev pub setOrClear : Family → Bool
-setOrClear f = setter f || clearer f
+-- the record bit that is switched: ISPENDR sets the latch, ICPENDR clears the latch only
+abbrev pub bitOf : Switch → Bit
+bitOf switch.Enable = Enabled
+bitOf switch.Pending = Latch
+bitOf switch.Active = Active
 
 -- A written 1 sets, or clears; a 0 does nothing.
-unfoldable pub setting : Bit → ℕ → Cell → Cell
-setting b d c = put b (eqb d 1 || get b c) c
+unfoldable pub switched : Bool → Bit → ℕ → Cell → Cell
+switched on b d c = put b (cond (eqb d 1) on (get b c)) c
 
-unfoldable pub clearing : Bit → ℕ → Cell → Cell
-clearing b d c = put b (not (eqb d 1) && get b c) c
-
--- HOUSE: a write that changes the trigger clears latch and message level
-unfoldable pub otherTrigger : Bool → Cell → Cell
-otherTrigger e c = put Edge e (put Latch false (put MessageLevel false c))
-
-unfoldable pub retriggered : Bool → Cell → Cell
-retriggered e c = gated (Bool·beq e (c .edge)) c (otherTrigger e c)
+abbrev pub guarded : Guard → Bit
+guarded guard.Group = Group
+guarded guard.Modifier = Modifier
 
 -- ICFGR: SGI fields ignore writes, and so (HOUSE) do those of enabled interrupts. The digit's upper bit is edge.
-unfoldable pub fixedField : ℕ → Cell → Bool
-fixedField m c = sgi m || c .enabled
+unfoldable pub fixedField : Interrupt → Cell → Bool
+fixedField i c = sgi i || c .enabled
 
-unfoldable pub configured : ℕ → ℕ → Cell → Cell
-configured d m c = gated (fixedField m c) c (retriggered (leb 2 d) c)
+-- HOUSE: a write that changes the trigger clears latch and message level
+unfoldable pub configured : ℕ → Interrupt → Cell → Cell
+configured d i c =
+    cond (fixedField i c || Bool·beq (leb 2 d) (c .edge)) c (put Edge (leb 2 d) (put Latch false (put MessageLevel false c)))
 
--- what writing the digit d of a family does
-unfoldable pub update : Family → ℕ → ℕ → Cell → Cell
-update Igroupr d m c = put Group (eqb d 1) c
-update Isenabler d m c = setting Enabled d c
-update Icenabler d m c = clearing Enabled d c
-update Ispendr d m c = setting Latch d c
-update Icpendr d m c = clearing Latch d c
-update Isactiver d m c = setting Active d c
-update Icactiver d m c = clearing Active d c
-update Igrpmodr d m c = put Modifier (eqb d 1) c
-update Icfgr d m c = configured d m c
+-- what writing the digit d does
+unfoldable pub update : Shape → Side → Kind → ℕ → Interrupt → Cell → Cell
+update s side (Switched on b) d i c = switched on (bitOf b) d c
+update s side (Guarded g) d i c = put (guarded g) (eqb d 1) c
+update s side Trigger d i c = configured d i c
 
--- the digit that a family shows. Both of a set and clear pair read the same word.
-unfoldable pub shows : Family → ℕ → Cell → ℕ
-shows Igroupr m c = digit (c .group)
-shows Isenabler m c = digit (c .enabled)
-shows Icenabler m c = digit (c .enabled)
-shows Ispendr m c = digit (pending m c)
-shows Icpendr m c = digit (pending m c)
-shows Isactiver m c = digit (c .active)
-shows Icactiver m c = digit (c .active)
-shows Igrpmodr m c = digit (c .modifier)
-shows Icfgr m c = 2 * digit (edgeOf m c)
+-- whether a state is on. Both of a set and clear pair read the same word.
+abbrev pub stateOf : Shape → Switch → Interrupt → Cell → Bool
+stateOf s switch.Enable i c = c .enabled
+stateOf s switch.Pending i c = pending s i c
+stateOf s switch.Active i c = c .active
 
--- THE GATE: the interrupt is implemented, and the side may touch it.
-unfoldable pub reaches : Side → Family → Cell → Bool
-reaches side f c = c .implemented && mayTouch side f c
+-- the digit that is shown
+unfoldable pub shows : Shape → Side → Kind → Interrupt → Cell → ℕ
+shows s side (Switched on b) i c = digit (stateOf s b i c)
+shows s side (Guarded g) i c = digit (get (guarded g) c)
+shows s side Trigger i c = 2 * digit (edgeOf i c)
 
--- the digit d of m is written to the family f, and the digit of m that it shows
-unfoldable pub touched : Side → Family → ℕ → ℕ → Cell → Cell
-touched side f d m c = gated (reaches side f c) (update f d m c) c
+unfoldable pub visible : Shape → Side → Kind → Interrupt → Cell → ℕ
+visible s side k i c = cond (reaches s side Read k i c) (shows s side k i c) 0
 
-unfoldable pub visible : Side → Family → ℕ → Cell → ℕ
-visible side f m c = cond (reaches side f c) (shows f m c) 0
-
--- a write of v to a word of the family f, where the word has a digit of m
-unfoldable pub wordWritten : Side → Family → Place → ℕ → ℕ → Cell → Cell
-wordWritten side f p v m c = gated (names p m) (touched side f (digitAt (digitBits f) (m - first p) v) m c) c
-
-abbrev pub secureOnly : message.Message → Bool
+abbrev pub secureOnly : Message → Bool
 secureOnly SetspiNsr = false
 secureOnly ClrspiNsr = false
 secureOnly SetspiSr = true
 secureOnly ClrspiSr = true
 
-abbrev pub sets : message.Message → Bool
+abbrev pub sets : Message → Bool
 sets SetspiNsr = true
 sets ClrspiNsr = false
 sets SetspiSr = true
 sets ClrspiSr = false
 
+-- a message of value v names i: INTID is value bits 12:0, and no other than an SPI or extended SPI
+unfoldable pub addresses : Shape → ℕ → Interrupt → Bool
+addresses s v (shared m) = s .mbis && eqb m (v % 8192)
+addresses s v (own m) = false
+
 -- The Non-secure side writes no SR register, and names no Secure SPI in an NSR register.
-unfoldable pub maySend : Side → message.Message → Cell → Bool
-maySend Secure g c = true
-maySend NonSecure g c = not (secureOnly g) && sees NonSecure c
+unfoldable pub maySend : Side → Message → Interrupt → Cell → Bool
+maySend Secure g i c = true
+maySend NonSecure g i c = not (secureOnly g) && sees NonSecure c
 
 -- SETSPI does nothing if already pending; else edge sets the latch, level sets message level.
-unfoldable pub messageSet : ℕ → Cell → Cell
-messageSet m c = gated (pending m c) c (gated (edgeOf m c) (put Latch true c) (put MessageLevel true c))
-
 -- CLRSPI clears the latch for edge, message level for level (HOUSE: not the latch there).
-unfoldable pub messageCleared : ℕ → Cell → Cell
-messageCleared m c = gated (edgeOf m c) (put Latch false c) (put MessageLevel false c)
+unfoldable pub sent : Shape → Message → Interrupt → Cell → Cell
+sent s g i c =
+    cond (sets g && pending s i c) c (cond (edgeOf i c) (put Latch (sets g) c) (put MessageLevel (sets g) c))
 
-unfoldable pub sent : message.Message → ℕ → Cell → Cell
-sent g m c = gated (sets g) (messageSet m c) (messageCleared m c)
+-- Secure may name any implemented interrupt; a wire event has no side.
+abbrev pub seesBy : Event → Cell → Bool
+seesBy (event.Wire level) c = true
+seesBy (event.Activate side) c = sees side c
+seesBy (event.Deactivate side) c = sees side c
 
--- what a message does to the interrupt that it names
-unfoldable pub delivered : Side → message.Message → ℕ → Cell → Cell
-delivered side g m c = gated (c .implemented && maySend side g c) (sent g m c) c
+abbrev pub ready : Shape → Event → Interrupt → Cell → Answer
+ready s (event.Wire level) i c = cond (sgi i) (Refused refusal.SgiWire) (Done 0)
+ready s (event.Activate side) i c = cond (c .enabled && (pending s i c && not (c .active))) (Done 0) (Refused refusal.State)
+ready s (event.Deactivate side) i c = cond (c .active) (Done 0) (Refused refusal.State)
 
--- a message of value v names m: INTID is value bits 12:0, and no other than an SPI or extended SPI
-unfoldable pub addresses : Shape → ℕ → ℕ → Bool
-addresses s v m = s .mbis && (eqb m (v % 8192) && spi m)
-
--- a write of v to a message register
-unfoldable pub messageWritten : Shape → Side → message.Message → ℕ → ℕ → Cell → Cell
-messageWritten s side g v m c = gated (addresses s v m) (delivered side g m c) c
-
--- a write of v to a place
-unfoldable pub written : Shape → Side → Place → ℕ → ℕ → Cell → Cell
-written s side (place.Word r f n) v m c = wordWritten side f (place.Word r f n) v m c
-written s side (place.Extended r f n) v m c = wordWritten side f (place.Extended r f n) v m c
-written s side place.Typer v m c = c
-written s side (place.Message g) v m c = messageWritten s side g v m c
-
--- an access, by what it was decoded to: a refused one and a read change nothing
-abbrev pub accessed : Shape → Access → Decoded → ℕ → Cell → Cell
-accessed s a (decoded.Refused r) m c = c
-accessed s a (decoded.At p) m c = elim (a .way) [ Read ↦ c | Write ↦ written s (a .side) p (writtenValue (a .width) (a .value)) m c ]
-
-abbrev pub first-of : Bool → Answer → Answer → Answer
-first-of true x y = x
-first-of false x y = y
-
--- Events answer 7, 8 or 9, the first that applies; otherwise done. Secure may name any implemented interrupt.
-unfoldable pub wireAnswer : ℕ → Cell → Answer
-wireAnswer m c = first-of (not (c .implemented)) (Refused refusal.Intid) (first-of (sgi m) (Refused refusal.SgiWire) (Done 0))
-
-unfoldable pub activateAnswer : Side → ℕ → Cell → Answer
-activateAnswer side m c =
-    first-of (not (c .implemented && sees side c)) (Refused refusal.Intid)
-    (first-of (not (c .enabled && (pending m c && not (c .active)))) (Refused refusal.State) (Done 0))
-
-unfoldable pub deactivateAnswer : Side → ℕ → Cell → Answer
-deactivateAnswer side m c =
-    first-of (not (c .implemented && sees side c)) (Refused refusal.Intid)
-    (first-of (not (c .active)) (Refused refusal.State) (Done 0))
+-- Events answer 7, 8 or 9, the first that applies; otherwise done.
+unfoldable pub eventAnswer : Shape → Event → Interrupt → Cell → Answer
+eventAnswer s e i c = cond (c .implemented && seesBy e c) (ready s e i c) (Refused refusal.Intid)
 
 abbrev pub isDone : Answer → Bool
 isDone (Done v) = true
 isDone (Refused r) = false
 
--- the wire's level is stored; a rise on an edge interrupt sets the latch
-unfoldable pub rises : Bool → ℕ → Cell → Bool
-rises level m c = edgeOf m c && (level && not (c .wire))
+-- The wire's level is stored; a rise on an edge interrupt sets the latch. Activation sets active and clears the latch; wire and
+-- message level stay. Deactivation clears active.
+unfoldable pub happened : Shape → Event → Interrupt → Cell → Cell
+happened s (event.Wire level) i c = put Latch ((edgeOf i c && (level && not (c .wire))) || c .latch) (put Wire level c)
+happened s (event.Activate side) i c = put Active true (put Latch false c)
+happened s (event.Deactivate side) i c = put Active false c
 
-unfoldable pub wired : Bool → ℕ → Cell → Cell
-wired level m c = put Latch (rises level m c || c .latch) (put Wire level c)
+-- AT WHOM a deed aims
+unfoldable pub aims : Shape → Deed → Interrupt → Bool
+aims s idle i = false
+aims s (write side w v) i = names w i
+aims s (send side g v) i = addresses s v i
+aims s (happen e m) i = same (named m) i
+aims s clear i = true
 
--- activation sets active and clears the latch; wire and message level stay
-unfoldable pub activated : Cell → Cell
-activated c = put Active true (put Latch false c)
+-- THE GATE: whether the interrupt's cell admits it. A refused event changes nothing.
+unfoldable pub admits : Shape → Deed → Interrupt → Cell → Bool
+admits s idle i c = false
+admits s (write side w v) i c = reaches s side Write (kindOf (w .family)) i c
+admits s (send side g v) i c = c .implemented && maySend side g i c
+admits s (happen e m) i c = isDone (eventAnswer s e i c)
+admits s clear i c = true
 
-unfoldable pub deactivated : Cell → Cell
-deactivated c = put Active false c
+-- ITS EFFECT there. Reset clears every record.
+unfoldable pub effect : Shape → Deed → Interrupt → Cell → Cell
+effect s idle i c = c
+effect s (write side w v) i c = update s side (kindOf (w .family)) (digitAt (bitsOf (w .family)) (intid i - w .first) v) i c
+effect s (send side g v) i c = sent s g i c
+effect s (happen e m) i c = happened s e i c
+effect s clear i c = decode (c .implemented) 0
 
--- THE RULE: what a step does to the interrupt m. A refused event changes nothing; reset clears every record.
-unfoldable pub act : Shape → Step → ℕ → Cell → Cell
-act s (access a) m c = accessed s a (placeOf (a .frame) (a .width) (a .offset)) m c
-act s (wire k level) m c = gated (eqb k m && isDone (wireAnswer m c)) (wired level m c) c
-act s (activate side k) m c = gated (eqb k m && isDone (activateAnswer side m c)) (activated c) c
-act s (deactivate side k) m c = gated (eqb k m && isDone (deactivateAnswer side m c)) (deactivated c) c
-act s reset m c = decode (c .implemented) 0
+unfoldable pub performed : Shape → Deed → Interrupt → Cell → Cell
+performed s d i c = cond (aims s d i && admits s d i c) (effect s d i c) c
+
+-- THE RULE: what a step does to the interrupt i.
+unfoldable pub act : Shape → Step → Interrupt → Cell → Cell
+act s q i c = performed s (deedOf q) i c

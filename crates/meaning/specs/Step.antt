@@ -1,5 +1,5 @@
 -- What a step is answered, and the lent tables after it: the whole machine, from the rule of one interrupt.
-use mathlib.Core.Bool.{Bool, true, false, not}
+use mathlib.Core.Bool.{Bool, cond}
 use mathlib.Core.List.{List}
 use Prim.Native.Nat.{ℕ, _+_, _*_, _-_, _^_}
 use lib.Dec.{ltb}
@@ -11,22 +11,23 @@ use Rattle.types.specs.declared.Side.{Side}
 use Rattle.types.specs.declared.Shape.{Shape}
 use Rattle.types.specs.declared.Way.the-variants.{Read, Write}
 use Rattle.types.specs.declared.Access.{Access}
-use Rattle.types.specs.declared.Family.{Family}
-use Rattle.types.specs.declared.Place.{Place}
-use Rattle.types.specs.declared.Place.the-variants as place
+use Rattle.types.specs.declared.Window.{Window}
+use Rattle.types.specs.declared.Target.{Target}
+use Rattle.types.specs.declared.Target.the-variants as target
 use Rattle.types.specs.declared.Refusal.the-variants as refusal
 use Rattle.types.specs.declared.Decoded.{Decoded}
 use Rattle.types.specs.declared.Decoded.the-variants as decoded
 use Rattle.types.specs.declared.Answer.{Answer}
 use Rattle.types.specs.declared.Answer.the-variants.{Done, Refused}
-use Rattle.meaning.specs.Cell.{Cell, decode, encode}
-use Rattle.meaning.specs.Layout.{Tables, recordsOf, intidOf, implemented, cellOf, wellFormed}
-use Rattle.meaning.specs.Registers.{digitBits, placeOf, first, count}
-use Rattle.meaning.specs.Rule.{Step, access, wire, activate, deactivate, reset, act, visible, wireAnswer, activateAnswer, deactivateAnswer}
+use Rattle.meaning.specs.Interrupt.{Interrupt, interrupt, named}
+use Rattle.meaning.specs.Cell.{Cell, encode}
+use Rattle.meaning.specs.Layout.{Tables, recordsOf, interruptAt, cellOf, wellFormed}
+use Rattle.meaning.specs.Registers.{kindOf, bitsOf, placeOf, targetOf}
+use Rattle.meaning.specs.Rule.{Step, access, happens, reset, act, visible, eventAnswer}
 
--- every interrupt, by its INTID
+-- every interrupt
 abbrev pub Cells : Type 0
-Cells = ℕ → Cell
+Cells = Interrupt → Cell
 
 -- TYPER: ITLinesNumber, ESPI, SecurityExtn, MBIS, IDbits 12, bit 25 (No1N), ESPI_range
 unfoldable pub typer : Shape → ℕ
@@ -34,57 +35,51 @@ typer s =
     s .lines + 2 ^ 8 * digit (ltb 0 (s .espi)) + 2 ^ 10 + 2 ^ 16 * digit (s .mbis) + 12 * 2 ^ 19 + 2 ^ 25
     + 2 ^ 27 * (s .espi - 1)
 
--- a word of the family f: the digits that it shows of its interrupts
-unfoldable pub wordRead : Side → Family → Place → Cells → ℕ
-wordRead side f p cells = row (digitBits f) (count p) (λ x. visible side f (first p + x) (cells (first p + x)))
+-- the digits that a window shows of its interrupts
+unfoldable pub wordRead : Shape → Side → Window → Cells → ℕ
+wordRead s side w cells =
+    row (bitsOf (w .family)) (w .count)
+    (λ x. visible s side (kindOf (w .family)) (interrupt (w .frame) (w .first + x)) (cells (interrupt (w .frame) (w .first + x))))
 
 -- what a read shows; message registers give 0 (HOUSE)
-unfoldable pub read : Shape → Side → Place → Cells → ℕ
-read s side (place.Word r f n) cells = wordRead side f (place.Word r f n) cells
-read s side (place.Extended r f n) cells = wordRead side f (place.Extended r f n) cells
-read s side place.Typer cells = typer s
-read s side (place.Message g) cells = 0
+unfoldable pub read : Shape → Side → Target → Cells → ℕ
+read s side (target.Digits w) cells = wordRead s side w cells
+read s side target.Typer cells = typer s
+read s side (target.Message g) cells = 0
 
 abbrev pub accessAnswer : Shape → Access → Decoded → Cells → Answer
 accessAnswer s a (decoded.Refused r) cells = Refused r
-accessAnswer s a (decoded.At p) cells = elim (a .way) [ Read ↦ Done (read s (a .side) p cells) | Write ↦ Done 0 ]
+accessAnswer s a (decoded.At p) cells = elim (a .way) [ Read ↦ Done (read s (a .side) (targetOf p) cells) | Write ↦ Done 0 ]
 
 -- THE ANSWER, where refusal 1 does not apply
 unfoldable pub answer : Shape → Step → Cells → Answer
-answer s (access a) cells = accessAnswer s a (placeOf (a .frame) (a .width) (a .offset)) cells
-answer s (wire m level) cells = wireAnswer m (cells m)
-answer s (activate side m) cells = activateAnswer side m (cells m)
-answer s (deactivate side m) cells = deactivateAnswer side m (cells m)
+answer s (access a) cells = accessAnswer s a (placeOf a) cells
+answer s (happens e m) cells = eventAnswer s e (named m) (cells (named m))
 answer s reset cells = Done 0
 
--- a table of records after a rule was followed at each of its slots
-unfoldable pub ruled : Shape → Tables → (ℕ → Cell → Cell) → Frame → List ℕ
-ruled s t rule r = mapFrom 0 (λ k byte. encode (rule (intidOf r k) (decode (implemented s t (intidOf r k)) byte))) (recordsOf r t)
-
--- a table of records after a step
-unfoldable pub recordsAfter : Shape → Step → Tables → Frame → List ℕ
-recordsAfter s q t r = ruled s t (act s q) r
+-- a table of numbers after a step: at each slot, the number `of` its interrupt as the step leaves it
+unfoldable pub column : (Interrupt → Cell) → (Cell → ℕ) → Frame → List ℕ → List ℕ
+column after of r xs = mapFrom 0 (λ k old. of (after (interruptAt r k))) xs
 
 -- The presence words are never written.
-unfoldable pub tablesAfter : Shape → Step → Tables → Tables
-tablesAfter s q t =
+unfoldable pub tablesWhere : (Interrupt → Cell) → Tables → Tables
+tablesWhere after t =
     record {
-      dist = recordsAfter s q t Dist;
-      redist = recordsAfter s q t Redist;
+      dist = column after encode Dist (t .dist);
+      redist = column after encode Redist (t .redist);
       distPresence = t .distPresence;
       redistPresence = t .redistPresence;
     }
+
+abbrev pub tablesAfter : Shape → Step → Tables → Tables
+tablesAfter s q t = tablesWhere (λ i. act s q i (cellOf s t i)) t
 
 pub record Outcome : Type 0 where
   pub answered : Answer
   pub tables : Tables
 
-abbrev pub unless : Bool → Outcome → Outcome → Outcome
-unless true x y = x
-unless false x y = y
-
 -- THE MACHINE: one step on the lent tables. Refusal 1 comes first, and leaves every lent byte as it was.
 unfoldable pub stepped : Shape → Step → Tables → Outcome
 stepped s q t =
-    unless (wellFormed s t) (record { answered = answer s q (cellOf s t); tables = tablesAfter s q t })
+    cond (wellFormed s t) (record { answered = answer s q (cellOf s t); tables = tablesAfter s q t })
     (record { answered = Refused refusal.Shape; tables = t })

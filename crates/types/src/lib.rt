@@ -24,7 +24,7 @@ pub struct Shape {
 impl Shape {
     // Judges nothing: a number off its limit is refused by each function that takes the shape.
     pub fn new(lines: u32, espi: u32, eppi: u32, mbis: bool) -> Shape
-        ensures { λ r. ⌜ (r .lines ≡ lines) × ((r .espi ≡ espi) × ((r .eppi ≡ eppi) × (r .mbis ≡ mbis))) ⌝ }
+        ensures { λ r. ⌜ r ≡ record { lines = lines; espi = espi; eppi = eppi; mbis = mbis } ⌝ }
     {
         Shape {
             lines,
@@ -52,32 +52,32 @@ pub struct Access {
 }
 
 impl Access {
-    // A read of `width` bytes; judges nothing.
-    pub fn read(frame: Frame, side: Side, width: u32, offset: u32) -> Access
-        ensures { λ r. ⌜ r ≡ record { frame = frame; side = side; way = Way.Read; width = width; offset = offset; value = 0 } ⌝ }
+    // Judges nothing: a width, an offset or a value that is no good is refused by each function that takes the access.
+    pub fn new(frame: Frame, side: Side, way: Way, width: u32, offset: u32, value: u32) -> Access
+        ensures { λ r. ⌜ r ≡ record { frame = frame; side = side; way = way; width = width; offset = offset; value = value } ⌝ }
     {
         Access {
             frame,
             side,
-            way: Way::Read,
+            way,
             width,
             offset,
-            value: 0,
+            value,
         }
+    }
+
+    // A read of `width` bytes; judges nothing.
+    pub fn read(frame: Frame, side: Side, width: u32, offset: u32) -> Access
+        ensures { λ r. ⌜ r ≡ record { frame = frame; side = side; way = Way.Read; width = width; offset = offset; value = 0 } ⌝ }
+    {
+        Access::new(frame, side, Way::Read, width, offset, 0)
     }
 
     // A write of `width` bytes of `value`; judges nothing.
     pub fn write(frame: Frame, side: Side, width: u32, offset: u32, value: u32) -> Access
         ensures { λ r. ⌜ r ≡ record { frame = frame; side = side; way = Way.Write; width = width; offset = offset; value = value } ⌝ }
     {
-        Access {
-            frame,
-            side,
-            way: Way::Write,
-            width,
-            offset,
-            value,
-        }
+        Access::new(frame, side, Way::Write, width, offset, value)
     }
 }
 
@@ -91,12 +91,6 @@ pub enum Bit {
     Edge,
     Group,
     Modifier,
-}
-
-// Where an interrupt is kept: its table (named by its frame), its slot there and its presence word; or nowhere.
-pub enum Home {
-    Slot(Frame, u32, u32),
-    Nowhere,
 }
 
 // The register families that hold a digit for each interrupt.
@@ -153,4 +147,64 @@ pub enum Decoded {
 pub enum Answer {
     Done(u32),
     Refused(Refusal),
+}
+
+// A state of an interrupt that a written 1 switches on or off.
+pub enum Switch {
+    Enable,
+    Pending,
+    Active,
+}
+
+// What only the Secure side reads and writes.
+pub enum Guard {
+    Group,
+    Modifier,
+}
+
+// What the digits of a family are.
+pub enum Kind {
+    // A written 1 switches the state on (true) or off, a 0 does nothing.
+    Switched(bool, Switch),
+    // The stored bit.
+    Guarded(Guard),
+    // Edge or level.
+    Trigger,
+}
+
+// A family's row of document 01's table.
+pub struct Row {
+    // What its digits are, how many bits each has, and how many a word has.
+    pub kind: Kind,
+    pub bits: u32,
+    pub per: u32,
+    // Offset and number of its words in the Distributor frame, and of its extended ones.
+    pub base: u32,
+    pub words: u32,
+    pub extended: u32,
+    pub extras: u32,
+    // How many words the Redistributor has, from the first of these offsets on.
+    pub redist: u32,
+}
+
+// The INTIDs that a register word has a digit of, interrupts of its frame: digit x is INTID first + x.
+pub struct Window {
+    pub frame: Frame,
+    pub family: Family,
+    pub first: u32,
+    pub count: u32,
+}
+
+// What a place stands for: digits of interrupts, TYPER, or a message register.
+pub enum Target {
+    Digits(Window),
+    Typer,
+    Message(Message),
+}
+
+// A wire goes to a level; a side activates or deactivates.
+pub enum Event {
+    Wire(bool),
+    Activate(Side),
+    Deactivate(Side),
 }
