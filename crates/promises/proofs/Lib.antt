@@ -1,4 +1,5 @@
 pub mod Unique
+pub mod Deeds
 pub mod Refused
 pub mod Records
 pub mod Shown

@@ -1,91 +1,103 @@
 -- DEMAND 1: a refusal leaves every lent byte as it was.
-use mathlib.Core.Path.{_≡_, refl, sym, ap, ap₂, _∙_}
+--   placed-done    an access that has a place is done
+--   step-left      a step that is refused leaves every interrupt
+--   by-shape       the tables after a step, by whether refusal 1 applies
+--   refused-kept   and so the four tables, whatever numbers stand in them
+use mathlib.Core.Path.{_≡_, refl, sym, ap, _∙_, subst}
 use mathlib.Core.Bool.{Bool, true, false, _&&_}
 use Prim.Native.Nat.{ℕ}
+use native.Mathlib.Omega.{arith}
 use lib.ListN.{length}
-use lib.Dec.{eqb}
+use lib.Seq.{ext-getD}
+use Rattle.lists.proofs.Bools.{and-left, and-right, clash}
+use Rattle.types.specs.declared.Frame.{Frame}
+use Rattle.types.specs.declared.Frame.the-variants.{Dist, Redist}
 use Rattle.types.specs.declared.Shape.{Shape}
 use Rattle.types.specs.declared.Way.{Way}
 use Rattle.types.specs.declared.Way.the-variants.{Read, Write}
 use Rattle.types.specs.declared.Access.{Access}
-use Rattle.types.specs.declared.Frame.the-variants.{Dist, Redist}
+use Rattle.types.specs.declared.Place.{Place}
+use Rattle.types.specs.declared.Event.{Event}
 use Rattle.types.specs.declared.Refusal.{Refusal}
-use Rattle.types.specs.declared.Refusal.the-variants as refusal
 use Rattle.types.specs.declared.Decoded.{Decoded}
-use Rattle.types.specs.declared.Decoded.the-variants as decoded
-use Rattle.types.specs.declared.Answer.{Answer}
+use Rattle.types.specs.declared.Decoded.the-variants.{At}
 use Rattle.types.specs.declared.Answer.the-variants.{Done, Refused}
-use native.Mathlib.Omega.{arith}
-use Rattle.meaning.specs.Cell.{Cell}
-use Rattle.meaning.specs.Layout.{Tables, wellFormed, shapeFits, lengthsFit, cellOf}
-use Rattle.meaning.specs.Registers.{placeOf, writtenValue}
-use Rattle.meaning.specs.Rule.{Step, access, wire, activate, deactivate, reset, gated, isDone, written, accessed, wireAnswer, activateAnswer, deactivateAnswer, wired, activated, deactivated, act}
-use Rattle.meaning.specs.Step.{Cells, unless, read, accessAnswer, answer, ruled, recordsAfter, tablesAfter, stepped}
-use Rattle.meaning.proofs.Cells.{gated-shut}
-use borrow.Author.Tests.{eqb-true}
-use Rattle.lists.proofs.Bools.{and-left, and-right, clash}
-use Rattle.lists.proofs.Maps.{length-mapFrom}
-use Rattle.engine.proofs.Ruled.{Bytes}
-use Rattle.promises.proofs.Records.{tables-well, ruled-left}
+use Rattle.meaning.specs.Interrupt.{Interrupt, same, named}
+use Rattle.meaning.specs.Layout.{Tables, recordsOf, slots, interruptAt, lengthsFit, wellFormed, cellOf}
+use Rattle.meaning.specs.Registers.{placeOf, targetOf}
+use Rattle.meaning.specs.Rule.{Step, access, happens, reset, Deed, happen, deedOf, isDone, eventAnswer, aims, admits, performed, act}
+use Rattle.meaning.specs.Step.{Cells, read, accessAnswer, answer, tablesWhere, tablesAfter, Outcome, stepped}
+use Rattle.meaning.proofs.Choices.{cond-shut, cond-false}
+use Rattle.meaning.proofs.Aims.{same-true}
+use Rattle.meaning.proofs.After.{records-length, lengths-kept, record-stays, answer-well, tables-well, well-lengths}
+use Rattle.promises.proofs.Deeds.{by-access, idle-left}
 
-lengths-same : (s : Shape) (q : Step) (t : Tables) → wellFormed s (tablesAfter s q t) ≡ wellFormed s t
-unfolding wellFormed lengthsFit tablesAfter recordsAfter ruled
-lengths-same s q t =
-    ap₂ (λ (a b : ℕ). shapeFits s && (eqb a 2012 && (eqb b 96 && (eqb (length (t .distPresence)) 63 && eqb (length (t .redistPresence)) 3))))
-    (length-mapFrom 0 _ (t .dist)) (length-mapFrom 0 _ (t .redist))
+refused-done : {r : Refusal} {v : ℕ} → Refused r ≡ Done v → ⊥
+refused-done e = let z : _≡_ {A = ℕ} 0 1 = cc in omega arith
 
-pub answer-well : (s : Shape) (q : Step) (t : Tables) → wellFormed s t ≡ true → (stepped s q t) .answered ≡ answer s q (cellOf s t)
+-- AN ACCESS with a place is done
+pub placed-done : (s : Shape) (a : Access) (p : Place) (cells : Cells) → placeOf a ≡ At p → (v : ℕ) × (answer s (access a) cells ≡ Done v)
+unfolding answer
+placed-done s a p cells e = by (a .way) (ap (λ (d : Decoded). accessAnswer s a d cells) e)
+  where
+    by : (w : Way) → accessAnswer s a (placeOf a) cells ≡ elim w [ Read ↦ Done (read s (a .side) (targetOf p) cells) | Write ↦ Done 0 ]
+        → (v : ℕ) × (accessAnswer s a (placeOf a) cells ≡ Done v)
+    by Read h = (read s (a .side) (targetOf p) cells, h)
+    by Write h = (0, h)
+
+-- A REFUSED STEP leaves every interrupt
+event-left : (s : Shape) (e : Event) (m : ℕ) (cells : Cells) (r : Refusal) (i : Interrupt)
+    → eventAnswer s e (named m) (cells (named m)) ≡ Refused r → performed s (happen e m) i (cells i) ≡ cells i
+unfolding performed aims admits
+event-left s e m cells r i h =
+    cond-shut (same (named m) i && isDone (eventAnswer s e i (cells i))) _ (cells i)
+    (λ t.
+    let here = same-true (named m) i (and-left (same (named m) i) (isDone (eventAnswer s e i (cells i))) t) in
+    clash (and-right (same (named m) i) (isDone (eventAnswer s e i (cells i))) t)
+    (ap isDone (ap (λ (j : Interrupt). eventAnswer s e j (cells j)) (sym here) ∙ h)))
+
+pub step-left : (s : Shape) (q : Step) (cells : Cells) (r : Refusal) (i : Interrupt) → answer s q cells ≡ Refused r
+    → act s q i (cells i) ≡ cells i
+unfolding act deedOf answer
+step-left s (access a) cells r i h =
+    by-access (λ (d : Deed). performed s d i (cells i) ≡ cells i) a (idle-left s i (cells i))
+    (λ p e w. let d = placed-done s a p cells e in absurd (refused-done (sym h ∙ d .1)))
+step-left s (happens e m) cells r i h = event-left s e m cells r i h
+step-left s reset cells r i h = absurd (refused-done (sym h))
+
+-- A STEP THAT LEAVES EVERY INTERRUPT leaves the tables
+module _ (s : Shape) (q : Step) (t : Tables) (fit : lengthsFit t ≡ true)
+    (left : (i : Interrupt) → act s q i (cellOf s t i) ≡ cellOf s t i) where
+  table-left : (r : Frame) → recordsOf r (tablesAfter s q t) ≡ recordsOf r t
+  table-left r =
+      ext-getD 0 (recordsOf r (tablesAfter s q t)) (recordsOf r t) (long ∙ sym (records-length t fit r))
+      (λ k l. record-stays s q t fit r k (rw long at l) (left (interruptAt r k)))
+    where
+      long : length (recordsOf r (tablesAfter s q t)) ≡ slots r
+      long = records-length (tablesAfter s q t) (lengths-kept s q t ∙ fit) r
+
+  tables-left : tablesAfter s q t ≡ t
+  unfolding tablesWhere
+  tables-left =
+      λ z.
+      record {
+        dist = table-left Dist z;
+        redist = table-left Redist z;
+        distPresence = t .distPresence;
+        redistPresence = t .redistPresence;
+      }
+
+-- REFUSAL 1 comes first, and leaves the tables. What holds of them, and where they are well-formed of the rule's, holds after a step.
+pub by-shape : (s : Shape) (q : Step) (t : Tables) (P : Tables → Type 0) → P t → (wellFormed s t ≡ true → P (tablesAfter s q t))
+    → P ((stepped s q t) .tables)
 unfolding stepped
-answer-well s q t h = ap (λ (b : Bool). (unless b (record { answered = answer s q (cellOf s t); tables = tablesAfter s q t }) (record { answered = Refused refusal.Shape; tables = t })) .answered) h
-
--- an event that is refused leaves every interrupt
-event-left : (k m : ℕ) (cells : Cells) (ans : ℕ → Cell → Answer) (effect : Cell → Cell) (r : Refusal) → ans k (cells k) ≡ Refused r
-    → gated (eqb k m && isDone (ans m (cells m))) (effect (cells m)) (cells m) ≡ cells m
-event-left k m cells ans effect r h =
-    gated-shut (eqb k m && isDone (ans m (cells m))) (effect (cells m)) (cells m)
-    (λ t. clash (and-right (eqb k m) (isDone (ans m (cells m))) t) (ap isDone (ap (λ (n : ℕ). ans n (cells n)) (sym (eqb-true k m (and-left (eqb k m) (isDone (ans m (cells m))) t))) ∙ h)))
-
-access-left : (s : Shape) (a : Access) (d : Decoded) (cells : Cells) (r : Refusal) (m : ℕ) → accessAnswer s a d cells ≡ Refused r → accessed s a d m (cells m) ≡ cells m
-access-left s a (decoded.Refused x) cells r m h = refl
-access-left s a (decoded.At p) cells r m h = by (a .way) h
+by-shape s q t P ill well = by (wellFormed s t) refl
   where
-    by : (w : Way) → elim w as (λ z. Answer) [ Read ↦ Done (read s (a .side) p cells) | Write ↦ Done 0 ] ≡ Refused r
-        → elim w as (λ z. Cell) [ Read ↦ cells m | Write ↦ written s (a .side) p (writtenValue (a .width) (a .value)) m (cells m) ] ≡ cells m
-    by Read e = refl
-    by Write e = absurd (let z : _≡_ {A = ℕ} 0 1 = cc in omega arith)
+    by : (b : Bool) → wellFormed s t ≡ b → P ((stepped s q t) .tables)
+    by true e = subst P (sym (tables-well s q t e)) (well e)
+    by false e = subst P (sym (ap (λ (o : Outcome). o .tables) (cond-false (wellFormed s t) _ _ e))) ill
 
-pub step-left : (s : Shape) (q : Step) (cells : Cells) (r : Refusal) (m : ℕ) → answer s q cells ≡ Refused r → act s q m (cells m) ≡ cells m
-unfolding answer act
-step-left s (access a) cells r m h = access-left s a (placeOf (a .frame) (a .width) (a .offset)) cells r m h
-step-left s (wire k level) cells r m h = event-left k m cells wireAnswer (wired level m) r h
-step-left s (activate side k) cells r m h = event-left k m cells (activateAnswer side) activated r h
-step-left s (deactivate side k) cells r m h = event-left k m cells (deactivateAnswer side) deactivated r h
-step-left s reset cells r m h = absurd (let z : _≡_ {A = ℕ} 0 1 = cc in omega arith)
-
--- on well-formed tables, and so on all
-refused-well : (s : Shape) (q : Step) (t : Tables) → wellFormed s t ≡ true → Bytes (t .dist) → Bytes (t .redist) → (r : Refusal) → answer s q (cellOf s t) ≡ Refused r → tablesAfter s q t ≡ t
-unfolding tablesAfter recordsAfter
-refused-well s q t well bd br r h =
-    λ i.
-    record {
-      dist = ruled-left s t well (act s q) Dist bd (λ m. step-left s q (cellOf s t) r m h) i;
-      redist = ruled-left s t well (act s q) Redist br (λ m. step-left s q (cellOf s t) r m h) i;
-      distPresence = t .distPresence;
-      redistPresence = t .redistPresence;
-    }
-
-pub refused-kept : (s : Shape) (q : Step) (t : Tables) → Bytes (t .dist) → Bytes (t .redist) → (r : Refusal) → (stepped s q t) .answered ≡ Refused r → (stepped s q t) .tables ≡ t
-unfolding stepped
-refused-kept s q t bd br r h = by (wellFormed s t) refl h
-  where
-    by : (b : Bool) → wellFormed s t ≡ b → (unless b (record { answered = answer s q (cellOf s t); tables = tablesAfter s q t }) (record { answered = Refused refusal.Shape; tables = t })) .answered ≡ Refused r
-        → (unless b (record { answered = answer s q (cellOf s t); tables = tablesAfter s q t }) (record { answered = Refused refusal.Shape; tables = t })) .tables ≡ t
-    by true e k = refused-well s q t e bd br r k
-    by false e k = refl
-
--- a step leaves the tables well-formed
-pub well-kept : (s : Shape) (q : Step) (t : Tables) → wellFormed s t ≡ true → wellFormed s ((stepped s q t) .tables) ≡ true
-well-kept s q t well = ap (wellFormed s) (tables-well s q t well) ∙ (same-lengths ∙ well)
-  where
-    same-lengths : wellFormed s (tablesAfter s q t) ≡ wellFormed s t
-    same-lengths = lengths-same s q t
+pub refused-kept : (s : Shape) (q : Step) (t : Tables) (r : Refusal) → (stepped s q t) .answered ≡ Refused r → (stepped s q t) .tables ≡ t
+refused-kept s q t r h =
+    by-shape s q t (λ (u : Tables). u ≡ t) refl
+    (λ e. tables-left s q t (well-lengths s t e) (λ i. step-left s q (cellOf s t) r i (sym (answer-well s q t e) ∙ h)))

@@ -1,49 +1,49 @@
--- CLAUSE 4: no Non-secure word access at a listed offset is refused.
+-- NO NON-SECURE WORD ACCESS AT A LISTED OFFSET IS REFUSED, nor a Secure one.
+--   listed-placed   a word access at a listed offset goes to its place
+--   word-answered   and with well-formed tables it is done
 use mathlib.Core.Path.{_≡_, refl, ap, _∙_}
 use mathlib.Core.Bool.{true}
-use Prim.Native.Nat.{ℕ, _-_, _%_, _≤_}
+use Prim.Native.Nat.{ℕ, _-_}
 use native.Mathlib.Omega.{arith}
-use lib.Dec.{ltb}
 use borrow.Author.Tests.{le-ltb}
 use Rattle.types.specs.declared.Frame.{Frame}
+use Rattle.types.specs.declared.Side.{Side}
 use Rattle.types.specs.declared.Shape.{Shape}
 use Rattle.types.specs.declared.Way.{Way}
-use Rattle.types.specs.declared.Way.the-variants.{Read, Write}
 use Rattle.types.specs.declared.Access.{Access}
 use Rattle.types.specs.declared.Place.{Place}
 use Rattle.types.specs.declared.Place.the-variants as place
-use Rattle.types.specs.declared.Decoded.{Decoded}
 use Rattle.types.specs.declared.Decoded.the-variants.{At}
-use Rattle.types.specs.declared.Answer.{Answer}
 use Rattle.types.specs.declared.Answer.the-variants.{Done}
 use Rattle.meaning.specs.Layout.{Tables, wellFormed, cellOf}
-use Rattle.meaning.specs.Registers.{listed, wideEnough, placeOf}
+use Rattle.meaning.specs.Registers.{wideEnough, placeOf}
 use Rattle.meaning.specs.Rule.{access}
-use Rattle.meaning.specs.Step.{read, accessAnswer, answer, stepped}
-use Rattle.promises.proofs.Refused.{answer-well}
+use Rattle.meaning.specs.Step.{stepped}
+use Rattle.meaning.proofs.After.{answer-well}
+use Rattle.promises.proofs.Refused.{placed-done}
+use Rattle.separation.specs.ReadBack.{ListedAt}
 
--- a word access at a listed offset goes to its place
 wide : (p : Place) → wideEnough 4 0 p ≡ true
 wide (place.Word r f n) = refl
 wide (place.Extended r f n) = refl
 wide place.Typer = refl
 wide (place.Message g) = refl
 
-pub listed-placed : (r : Frame) (o : ℕ) (p : Place) → o ≤ 65535 → o % 4 ≡ 0 → listed r o ≡ At p → placeOf r 4 o ≡ At p
+pub listed-placed : (r : Frame) (o : ℕ) (p : Place) → ListedAt r o p → (side : Side) (w : Way) (v : ℕ)
+    → placeOf (record { frame = r; side = side; way = w; width = 4; offset = o; value = v }) ≡ At p
 unfolding placeOf
-listed-placed r o p small even h =
+listed-placed r o p h side w v =
     let same : o - 0 ≡ o = omega arith in
-    rw (even, le-ltb 65535 o small, same, h, wide p) refl
+    rw (h .aligned, le-ltb 65535 o (h .small), same, h .known, wide p) refl
 
--- whichever the side: with well-formed tables it is done
-pub word-answered : (s : Shape) (t : Tables) → wellFormed s t ≡ true → (a : Access) (p : Place) → a .width ≡ 4 → a .offset ≤ 65535 → a .offset % 4 ≡ 0 → listed (a .frame) (a .offset) ≡ At p
-    → (v : ℕ) × ((stepped s (access a) t) .answered ≡ Done v)
-unfolding answer
-word-answered s t well a p w small even h = by (a .way) (answer-well s (access a) t well ∙ ap (λ (d : Decoded). accessAnswer s a d (cellOf s t)) there)
+pub word-answered : (s : Shape) (t : Tables) → wellFormed s t ≡ true → (a : Access) (p : Place) → a .width ≡ 4
+    → ListedAt (a .frame) (a .offset) p → (v : ℕ) × ((stepped s (access a) t) .answered ≡ Done v)
+word-answered s t well a p w h =
+    let done = placed-done s a p (cellOf s t) (there ∙ listed-placed (a .frame) (a .offset) p h (a .side) (a .way) (a .value)) in
+    (done .0, answer-well s (access a) t well ∙ done .1)
   where
-    there : placeOf (a .frame) (a .width) (a .offset) ≡ At p
-    there = ap (λ (n : ℕ). placeOf (a .frame) n (a .offset)) w ∙ listed-placed (a .frame) (a .offset) p small even h
+    wide-by : ℕ → Access
+    wide-by n = record { frame = a .frame; side = a .side; way = a .way; width = n; offset = a .offset; value = a .value }
 
-    by : (x : Way) → (stepped s (access a) t) .answered ≡ elim x as (λ z. Answer) [ Read ↦ Done (read s (a .side) p (cellOf s t)) | Write ↦ Done 0 ] → (v : ℕ) × ((stepped s (access a) t) .answered ≡ Done v)
-    by Read e = (read s (a .side) p (cellOf s t), e)
-    by Write e = (0, e)
+    there : placeOf a ≡ placeOf (wide-by 4)
+    there = ap (λ (n : ℕ). placeOf (wide-by n)) w

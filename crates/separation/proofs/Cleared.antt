@@ -1,165 +1,161 @@
--- CLAUSE 2: the table where no Secure interrupt exists. The Non-secure side cannot tell it from the tables as they are.
+-- THE TABLE WHERE NO SECURE INTERRUPT EXISTS, its presence bits really cleared in the lent words. The Non-secure side cannot tell it from
+-- the tables as they are.
+--   as-if-none           clause 2: a run, and its Non-secure steps alone on that table
+--   as-if-none-private   or with private steps of that table's own
+--   well-there, none-secure, owned-there   that table is well-formed, has no Secure interrupt, and has those that are owned
 use mathlib.Core.Path.{_≡_, refl, sym, ap, ap₂, _∙_}
-use mathlib.Core.Bool.{Bool, true, false, cond, not, _&&_}
+use mathlib.Core.Bool.{Bool, true, false, not, _&&_}
 use mathlib.Core.List.{List}
 use Prim.Native.Nat.{ℕ, _+_, _*_, _-_, _%_, _/_, _^_, _≤_, _<_}
 use native.Mathlib.Omega.{arith}
 use lib.ListN.{getD, length}
-use lib.Dec.{eqb, ltb}
-use borrow.Author.Tests.{eqb-true, lt-ltb, le-ltb}
+use lib.Dec.{eqb}
+use borrow.Author.Tests.{lt-ltb, le-ltb, ne-eqb}
 use Rattle.lists.specs.Word.{digit, digitAt, bitAt, row}
 use Rattle.lists.proofs.Maps.{length-mapFrom, at-mapFrom}
-use Rattle.lists.proofs.Bools.{and-left, and-right}
+use Rattle.lists.proofs.Bools.{and-left}
 use Rattle.lists.proofs.Rows.{row-digit}
 use Rattle.types.specs.declared.Frame.{Frame}
 use Rattle.types.specs.declared.Frame.the-variants.{Dist, Redist}
-use Rattle.types.specs.declared.Home.{Home}
-use Rattle.types.specs.declared.Home.the-variants.{Slot, Nowhere}
 use Rattle.types.specs.declared.Shape.{Shape}
-use Rattle.meaning.specs.Cell.{decode, nonSecure}
-use Rattle.meaning.specs.Layout.{Tables, presenceOf, homeOf, inRange, presentAt, byteAt, shapeFits, lengthsFit, wellFormed, implemented, cellOf}
+use Rattle.meaning.specs.Interrupt.{Interrupt, shared, own, intid, interrupt}
+use Rattle.types.specs.declared.Bit.the-variants.{Group}
+use Rattle.meaning.specs.Cell.{has, decode, nonSecure, owned}
+use Rattle.meaning.specs.Layout.{Tables, presenceOf, presenceWords, lengthsFit, wellFormed, inRange}
+use Rattle.meaning.specs.Layout.{Home, slot, nowhere, homeOf, presentAt, recordAt, implemented, cellOf}
 use Rattle.meaning.specs.Rule.{Step}
-use Rattle.meaning.specs.Sides.{owned}
-use Rattle.meaning.proofs.Bytes.{digit-back}
-use Rattle.meaning.proofs.Homes.{home-cases, presenceWords, home-word}
-use Rattle.engine.proofs.Facts.{presence-fits}
-use Rattle.separation.specs.Machine.{Alike, Item, publics}
-use Rattle.separation.specs.Steps.{controller}
-use Rattle.separation.proofs.Runs.{alone}
-use Rattle.separation.proofs.Tables.{Same, run-alone, runs-alike}
-use Rattle.separation.specs.Lent.{presentIntid, secureAt, cleared, withoutSecure, Run}
+use Rattle.meaning.proofs.Bytes.{digit-back, digit-fits}
+use Rattle.meaning.proofs.Homes.{shared-home, own-home}
+use Rattle.meaning.proofs.After.{presence-length, well-lengths}
+use Rattle.separation.specs.Runs.{Item, publics, alone}
+use Rattle.separation.specs.Steps.{PrivateStep}
+use Rattle.separation.specs.Lent.{Run, Indistinct, Same, presentIntid, secureAt, cleared, withoutSecure}
+use Rattle.separation.proofs.Views.{alike-glimpse}
+use Rattle.separation.proofs.Steps.{private-quiet}
+use Rattle.separation.proofs.Tables.{owned-here, runs-indistinct, run-deleted}
 
--- bit m % 32 of a home's presence word is the bit of m
-abbrev Named : ℕ → Home → Type 0
-Named m (Slot r k w) = presentIntid r w (m % 32) ≡ m
-Named m Nowhere = Unit
+-- BIT intid % 32 of a home's presence word is its interrupt's, and the word is one of the table's
+abbrev Marked : Interrupt → Home → Type 0
+Marked i (slot r k w) = (interrupt r (presentIntid r w (intid i % 32)) ≡ i) × (w < presenceWords r)
+Marked i nowhere = Unit
 
-low-named : (m : ℕ) → m < 32 → presentIntid Redist 0 (m % 32) ≡ m
+marked : (i : Interrupt) → Marked i (homeOf i)
 unfolding presentIntid
-low-named m a = omega arith
-
-spi-named : (m : ℕ) → 32 ≤ m → m < 1020 → presentIntid Dist (m / 32 - 1) (m % 32) ≡ m
-unfolding presentIntid
-spi-named m a b = let l : m / 32 - 1 < 31 = omega arith in rw (lt-ltb (m / 32 - 1) 31 l) (omega arith)
-
-eppi-named : (m : ℕ) → 1056 ≤ m → m < 1120 → presentIntid Redist ((m - 1024) / 32) (m % 32) ≡ m
-unfolding presentIntid
-eppi-named m a b = by (eqb ((m - 1024) / 32) 0) refl
-  where
-    by : (z : Bool) → eqb ((m - 1024) / 32) 0 ≡ z → cond z (m % 32) (1024 + (32 * ((m - 1024) / 32) + m % 32)) ≡ m
-    by true e = absurd (let z = eqb-true ((m - 1024) / 32) 0 e in omega arith)
-    by false e = omega arith
-
-espi-named : (m : ℕ) → 4096 ≤ m → m < 5120 → presentIntid Dist (31 + (m - 4096) / 32) (m % 32) ≡ m
-unfolding presentIntid
-espi-named m a b = let l : 31 ≤ 31 + (m - 4096) / 32 = omega arith in rw (le-ltb (31 + (m - 4096) / 32) 31 l) (omega arith)
-
-named : (m : ℕ) → Named m (homeOf m)
-named m = home-cases (Named m) m (low-named m) (spi-named m) (eppi-named m) (espi-named m) tt
+marked (shared m) =
+    shared-home (Marked (shared m)) m
+    (λ h k.
+    let l : m / 32 - 1 < 31 = omega arith in
+    let e : 32 * ((m / 32 - 1) + 1) + m % 32 ≡ m = omega arith in
+    (rw (lt-ltb (m / 32 - 1) 31 l) (ap shared e), omega arith))
+    (λ h k.
+    let l : 31 ≤ 31 + (m - 4096) / 32 = omega arith in
+    let e : 4096 + (32 * ((31 + (m - 4096) / 32) - 31) + m % 32) ≡ m = omega arith in
+    (rw (le-ltb (31 + (m - 4096) / 32) 31 l) (ap shared e), omega arith))
+    (λ h k. tt)
+marked (own m) =
+    own-home (Marked (own m)) m (λ h. let e : m % 32 ≡ m = omega arith in (ap own e, omega arith))
+    (λ h k.
+    let l : (m - 1024) / 32 ≡ 0 → ⊥ = λ z. omega arith in
+    let e : 1024 + (32 * ((m - 1024) / 32) + m % 32) ≡ m = omega arith in
+    (rw (ne-eqb ((m - 1024) / 32) 0 l) (ap own e), omega arith))
+    (λ h k. tt)
 
 -- bit x of a cleared word
 bit-of-row : (f : ℕ → Bool) (x : ℕ) → x < 32 → bitAt (row 1 32 (λ k. digit (f k))) x ≡ f x
 unfolding bitAt digitAt
-bit-of-row f x l = ap (λ (z : ℕ). eqb z 1) (here ∙ row-digit 1 32 (λ k. digit (f k)) (λ k u. small (f k)) x l) ∙ digit-back (f x)
-  where
-    small : (b : Bool) → digit b < 2 ^ 1
-    small true = omega arith
-    small false = omega arith
+bit-of-row f x l =
+    let e : x ≡ 1 * x = omega arith in
+    ap (λ (k : ℕ). eqb (row 1 32 (λ k. digit (f k)) / 2 ^ k % 2) 1) e
+    ∙ (ap (λ (z : ℕ). eqb z 1) (row-digit 1 32 (λ k. digit (f k)) (λ k u. digit-fits (f k)) x l) ∙ digit-back (f x))
 
-    here : row 1 32 (λ k. digit (f k)) / 2 ^ x % 2 ≡ row 1 32 (λ k. digit (f k)) / 2 ^ (1 * x) % 2 ^ 1
-    here = let e : 1 * x ≡ x = omega arith in ap (λ (k : ℕ). row 1 32 (λ k. digit (f k)) / 2 ^ k % 2) (sym e)
+module _ (s : Shape) (t : Tables) (well : wellFormed s t ≡ true) where
+  abbrev there : Tables
+  there = withoutSecure s t
 
-presence-length : (s : Shape) (t : Tables) → wellFormed s t ≡ true → (r : Frame) → length (presenceOf r t) ≡ presenceWords r
-presence-length s t well Dist = presence-fits s t well .dist-words
-presence-length s t well Redist = presence-fits s t well .redist-words
+  words-there : (r : Frame) → presenceOf r there ≡ cleared s t r
+  unfolding withoutSecure
+  words-there Dist = refl
+  words-there Redist = refl
 
--- the presence lists of the table where no Secure interrupt exists
-presence-cleared : (s : Shape) (t : Tables) (r : Frame) → presenceOf r (withoutSecure s t) ≡ cleared s t r
-unfolding withoutSecure
-presence-cleared s t Dist = refl
-presence-cleared s t Redist = refl
+  record-there : (h : Home) → recordAt there h ≡ recordAt t h
+  unfolding withoutSecure
+  record-there (slot Dist k w) = refl
+  record-there (slot Redist k w) = refl
+  record-there nowhere = refl
 
--- a home of that table is present where it was, and is not Secure
-present-left : (s : Shape) (t : Tables) → wellFormed s t ≡ true → (m : ℕ) (h : Home) → homeOf m ≡ h → Named m h
-    → presentAt (withoutSecure s t) (m % 32) h ≡ (presentAt t (m % 32) h && not (secureAt s t m))
-unfolding cleared
-present-left s t well m (Slot r k w) e n =
-    let inside : w < length (presenceOf r t) = rw (presence-length s t well r) (home-word m r k w e) in
-    ap (λ (ws : List ℕ). bitAt (getD ws w 0) (m % 32)) (presence-cleared s t r)
-    ∙ (ap (λ (v : ℕ). bitAt v (m % 32)) (at-mapFrom _ (presenceOf r t) w inside)
-    ∙ (bit-of-row (λ x. bitAt (getD (presenceOf r t) w 0) x && not (secureAt s t (presentIntid r w x))) (m % 32) (omega arith)
-    ∙ ap (λ (k : ℕ). bitAt (getD (presenceOf r t) w 0) (m % 32) && not (secureAt s t k)) n))
-present-left s t well m Nowhere e n = refl
+  pub well-there : wellFormed s (withoutSecure s t) ≡ true
+  unfolding wellFormed lengthsFit withoutSecure cleared
+  well-there = rw (length-mapFrom 0 _ (t .distPresence), length-mapFrom 0 _ (t .redistPresence)) well
 
--- only the owned interrupts exist there
-only-owned : (a b n : Bool) → (a && (b && not ((a && b) && not n))) ≡ ((a && b) && n)
-only-owned true true true = refl
-only-owned true true false = refl
-only-owned true false n = refl
-only-owned false b n = refl
+  -- an interrupt exists there where it did, and is not Secure
+  bit-there : (i : Interrupt) (h : Home) → Marked i h
+      → presentAt there (intid i % 32) h ≡ (presentAt t (intid i % 32) h && not (secureAt s t i))
+  unfolding cleared
+  bit-there i (slot r k w) (m, l) =
+      let inside : w < length (presenceOf r t) = rw (presence-length t (well-lengths s t well) r) l in
+      let old = getD (presenceOf r t) w 0 in
+      ap (λ (ws : List ℕ). bitAt (getD ws w 0) (intid i % 32)) (words-there r)
+      ∙ (ap (λ (v : ℕ). bitAt v (intid i % 32)) (at-mapFrom _ (presenceOf r t) w inside)
+      ∙ (bit-of-row (λ x. bitAt old x && not (secureAt s t (interrupt r (presentIntid r w x)))) (intid i % 32) (omega arith)
+      ∙ ap (λ (j : Interrupt). bitAt old (intid i % 32) && not (secureAt s t j)) m))
+  bit-there i nowhere m = refl
 
-exists-there : (s : Shape) (t : Tables) → wellFormed s t ≡ true → (m : ℕ) → implemented s (withoutSecure s t) m ≡ owned (cellOf s t m)
-unfolding implemented secureAt owned cellOf decode
-exists-there s t well m =
-    ap (λ (b : Bool). inRange s m && b) (present-left s t well m (homeOf m) refl (named m)) ∙ only-owned (inRange s m) (presentAt t (m % 32) (homeOf m)) (nonSecure (cellOf s t m))
+  present-there : (i : Interrupt) → implemented s there i ≡ (implemented s t i && nonSecure (cellOf s t i))
+  unfolding implemented secureAt
+  present-there i =
+      ap (λ (b : Bool). inRange s i && b) (bit-there i (homeOf i) (marked i))
+      ∙ by (inRange s i) (presentAt t (intid i % 32) (homeOf i)) (nonSecure (cellOf s t i))
+    where
+      by : (a b n : Bool) → (a && (b && not ((a && b) && not n))) ≡ ((a && b) && n)
+      by true true true = refl
+      by true true false = refl
+      by true false n = refl
+      by false b n = refl
 
--- its records are the same
-byte-there : (s : Shape) (t : Tables) (h : Home) → byteAt (withoutSecure s t) h ≡ byteAt t h
-unfolding withoutSecure
-byte-there s t (Slot Dist k w) = refl
-byte-there s t (Slot Redist k w) = refl
-byte-there s t Nowhere = refl
+  side-there : (i : Interrupt) → nonSecure (cellOf s there i) ≡ nonSecure (cellOf s t i)
+  unfolding nonSecure cellOf decode
+  side-there i = ap (has Group) (record-there (homeOf i))
 
-cell-there : (s : Shape) (t : Tables) → wellFormed s t ≡ true → (m : ℕ) → cellOf s (withoutSecure s t) m ≡ decode (owned (cellOf s t m)) (byteAt t (homeOf m))
-unfolding cellOf
-cell-there s t well m = ap₂ (λ (i : Bool) (n : ℕ). decode i n) (exists-there s t well m) (byte-there s t (homeOf m))
+  pub owned-there : (i : Interrupt) → owned (cellOf s (withoutSecure s t) i) ≡ owned (cellOf s t i)
+  owned-there i =
+      owned-here s there i
+      ∙ (ap₂ _&&_ (present-there i) (side-there i) ∙ (by (implemented s t i) (nonSecure (cellOf s t i)) ∙ sym (owned-here s t i)))
+    where
+      by : (a n : Bool) → ((a && n) && n) ≡ (a && n)
+      by true true = refl
+      by true false = refl
+      by false n = refl
 
--- the side of a record does not depend on presence
-owned-decoded : (i : Bool) (n : ℕ) → owned (decode i n) ≡ (i && nonSecure (decode true n))
-unfolding owned nonSecure decode
-owned-decoded i n = refl
+  pub none-secure : (i : Interrupt) → secureAt s (withoutSecure s t) i ≡ false
+  unfolding secureAt
+  none-secure i =
+      ap₂ (λ (a n : Bool). a && not n) (present-there i) (side-there i) ∙ by (implemented s t i) (nonSecure (cellOf s t i))
+    where
+      by : (a n : Bool) → ((a && n) && not n) ≡ false
+      by true true = refl
+      by true false = refl
+      by false n = refl
 
-twice : (i n : Bool) → (i && n) ≡ ((i && n) && n)
-twice true true = refl
-twice true false = refl
-twice false n = refl
+  same-there : (i : Interrupt) → owned (cellOf s t i) ≡ true → cellOf s t i ≡ cellOf s there i
+  unfolding cellOf
+  same-there i o =
+      let both = sym (owned-here s t i) ∙ o in
+      ap₂ decode (and-left (implemented s t i) _ both ∙ sym (present-there i ∙ both)) (sym (record-there (homeOf i)))
 
-pub well-there : (s : Shape) (t : Tables) → wellFormed s t ≡ true → wellFormed s (withoutSecure s t) ≡ true
-unfolding wellFormed lengthsFit withoutSecure cleared
-well-there s t well =
-    ap₂ (λ (a b : ℕ). shapeFits s && (eqb (length (t .dist)) 2012 && (eqb (length (t .redist)) 96 && (eqb a 63 && eqb b 3)))) (length-mapFrom 0 _ (t .distPresence)) (length-mapFrom 0 _ (t .redistPresence)) ∙ well
+  indistinct-there : Indistinct s t there
+  indistinct-there =
+      record {
+        first = well;
+        second = well-there;
+        same = λ i. alike-glimpse i (cellOf s t i) (cellOf s there i) (sym (owned-there i)) (same-there i);
+      }
 
--- the Non-secure side owns the same there
-pub alike-there : (s : Shape) (t : Tables) → wellFormed s t ≡ true → Alike (controller s) (cellOf s t) (cellOf s (withoutSecure s t))
-unfolding cellOf
-alike-there s t well =
-    record {
-      sides = λ m. sides m;
-      owned-same = λ m o. ap (λ (i : Bool). decode i (byteAt t (homeOf m))) (and-left (implemented s t m) (nonSecure (decode true (byteAt t (homeOf m)))) (sym (owned-decoded (implemented s t m) (byteAt t (homeOf m))) ∙ o) ∙ sym o) ∙ sym (cell-there s t well m);
-    }
-  where
-    sides : (m : ℕ) → owned (cellOf s t m) ≡ owned (cellOf s (withoutSecure s t) m)
-    sides m =
-        owned-decoded (implemented s t m) (byteAt t (homeOf m))
-        ∙ (twice (implemented s t m) (nonSecure (decode true (byteAt t (homeOf m))))
-        ∙ (ap (λ (b : Bool). b && nonSecure (decode true (byteAt t (homeOf m)))) (sym (owned-decoded (implemented s t m) (byteAt t (homeOf m))))
-        ∙ (sym (owned-decoded (owned (cellOf s t m)) (byteAt t (homeOf m))) ∙ sym (ap owned (cell-there s t well m)))))
+  -- CLAUSE 2: a run on the tables, and its Non-secure steps alone on the table where no Secure interrupt exists ..
+  pub as-if-none : (r : List (Item Step)) → Run s t r
+      → Run s (withoutSecure s t) (alone (publics r)) × Same s t r (withoutSecure s t) (alone (publics r))
+  as-if-none = run-deleted s (PrivateStep s) (private-quiet s) t there indistinct-there
 
--- A run on the tables, and its Non-secure steps alone on the table where no Secure interrupt exists.
-pub as-if-none : (s : Shape) (t : Tables) → wellFormed s t ≡ true → (r : List (Item Step)) → Run s t r
-    → Run s (withoutSecure s t) (alone (controller s) (publics r)) × Same s t r (withoutSecure s t) (alone (controller s) (publics r))
-as-if-none s t well r k = run-alone s t (withoutSecure s t) well (well-there s t well) (alike-there s t well) r k
-
--- .. or with that table's own private steps
-pub as-if-none-private : (s : Shape) (t : Tables) → wellFormed s t ≡ true → (r r' : List (Item Step)) → publics r ≡ publics r' → Run s t r → Run s (withoutSecure s t) r' → Same s t r (withoutSecure s t) r'
-as-if-none-private s t well r r' same k k' = runs-alike s t (withoutSecure s t) well (well-there s t well) (alike-there s t well) r r' same k k'
-
--- There no interrupt is Secure.
-pub none-secure : (s : Shape) (t : Tables) → wellFormed s t ≡ true → (m : ℕ) → secureAt s (withoutSecure s t) m ≡ false
-unfolding secureAt owned decode cellOf
-none-secure s t well m = by (implemented s (withoutSecure s t) m) refl
-  where
-    by : (i : Bool) → implemented s (withoutSecure s t) m ≡ i → (i && not (nonSecure (cellOf s (withoutSecure s t) m))) ≡ false
-    by true e =
-        ap not (and-right (implemented s (withoutSecure s t) m) (nonSecure (cellOf s (withoutSecure s t) m)) (sym (alike-there s t well .sides m) ∙ (sym (exists-there s t well m) ∙ e)))
-    by false e = refl
+  -- .. or with that table's own private steps
+  pub as-if-none-private : (r r' : List (Item Step)) → publics r ≡ publics r' → Run s t r → Run s (withoutSecure s t) r'
+      → Same s t r (withoutSecure s t) r'
+  as-if-none-private = runs-indistinct s (PrivateStep s) (private-quiet s) t there indistinct-there

@@ -1,9 +1,10 @@
-pub mod Runs
-pub mod Laws
+pub mod Unwinding
+pub mod Views
+pub mod Steps
+pub mod Confidential
 pub mod Tables
 pub mod Answered
 pub mod ReadBack
 pub mod Cleared
 pub mod Private
 pub mod Witness
-pub mod Bytes

@@ -1,16 +1,21 @@
--- Secure steps that can change no record are private, whatever they name: document 01's first kind, one by one. The other kinds
--- are the constructors of PrivateStep; that each leaves what the Non-secure side owns is `private-quiet` in Laws.
+-- WHAT IS PRIVATE, by name: document 01's list and the readings of it, so that the run theorems speak of all of it. That each kind leaves
+-- what the Non-secure side has is `private-quiet`.
+--   a-read, refused-step, typer-write, res0-write, no-messages, no-spi, missing-message, sgi-fields
+--                                   steps that can change no record, whatever they name: `unchanging`
+--   secure-deed, set-and-clear      a Secure write is a deed as the other kinds of writes ask; the families of set and clear writes
 use mathlib.Core.Path.{_≡_, refl, ap, _∙_}
-use mathlib.Core.Bool.{Bool, true, false, _&&_, _||_}
-use Prim.Native.Nat.{ℕ, _+_, _-_, _%_}
+use mathlib.Core.Bool.{Bool, true, false, _&&_, _||_, and-false}
+use Prim.Native.Nat.{ℕ, _*_, _%_, _<_}
 use native.Mathlib.Omega.{arith}
 use lib.Dec.{eqb}
-use borrow.Author.Tests.{eqb-true, lt-ltb}
-use Rattle.lists.proofs.Bools.{and-left, and-right, clash}
+use borrow.Author.Tests.{lt-ltb}
+use Rattle.lists.proofs.Bools.{and-left}
 use Rattle.types.specs.declared.Shape.{Shape}
-use Rattle.types.specs.declared.Frame.{Frame}
-use Rattle.types.specs.declared.Frame.the-variants.{Redist}
-use Rattle.types.specs.declared.Family.the-variants.{Icfgr}
+use Rattle.types.specs.declared.Frame.the-variants.{Dist, Redist}
+use Rattle.types.specs.declared.Switch.the-variants.{Enable, Pending, Active}
+use Rattle.types.specs.declared.Kind.the-variants.{Switched, Trigger}
+use Rattle.types.specs.declared.Family.{Family}
+use Rattle.types.specs.declared.Family.the-variants.{Isenabler, Icenabler, Ispendr, Icpendr, Isactiver, Icactiver, Icfgr}
 use Rattle.types.specs.declared.Side.{Side}
 use Rattle.types.specs.declared.Side.the-variants.{Secure}
 use Rattle.types.specs.declared.Way.{Way}
@@ -18,95 +23,119 @@ use Rattle.types.specs.declared.Way.the-variants.{Read, Write}
 use Rattle.types.specs.declared.Access.{Access}
 use Rattle.types.specs.declared.Place.{Place}
 use Rattle.types.specs.declared.Place.the-variants as place
-use Rattle.types.specs.declared.Message as message
+use Rattle.types.specs.declared.Message.{Message}
 use Rattle.types.specs.declared.Refusal.{Refusal}
-use Rattle.types.specs.declared.Decoded.{Decoded}
-use Rattle.types.specs.declared.Decoded.the-variants as decoded
+use Rattle.types.specs.declared.Decoded.the-variants.{At}
 use Rattle.types.specs.declared.Answer.the-variants.{Refused}
-use Rattle.meaning.specs.Cell.{Cell, sgi}
-use Rattle.meaning.specs.Layout.{spi, between}
-use Rattle.meaning.specs.Registers.{digitBits, res0, placeOf, writtenValue, first, count, names}
-use Rattle.meaning.specs.Rule.{Step, access, addresses, fixedField, update, reaches, touched, wordWritten, written, accessed, act}
+use Rattle.meaning.specs.Interrupt.{Interrupt, shared, own, intid, sgi, between}
+use Rattle.meaning.specs.Cell.{Cell}
+use Rattle.meaning.specs.Layout.{Tables, inRange, Home, nowhere, homeOf, presentAt, implemented, cellOf}
+use Rattle.meaning.specs.Registers.{rowOf, kindOf, perWord, placeOf, writtenValue, targetOf, names}
+use Rattle.meaning.specs.Rule.{Step, access, Deed, idle, send, writeTo, accessed, deedOf, reaches, addresses}
+use Rattle.meaning.specs.Rule.{aims, admits, effect, performed, act}
 use Rattle.meaning.specs.Step.{Cells, answer}
-use Rattle.lists.specs.Word.{digitAt}
-use Rattle.meaning.proofs.Cells.{gated-keeps}
+use Rattle.meaning.proofs.Choices.{cond-keeps}
+use Rattle.meaning.proofs.Homes.{between-high}
+use Rattle.meaning.proofs.Gates.{missing-left}
+use Rattle.meaning.proofs.Aims.{unaimed-left, addressed}
 use Rattle.meaning.proofs.Effects.{field-ignored}
-use Rattle.meaning.proofs.Homes.{between-low, between-high}
-use Rattle.promises.proofs.Records.{reachedBy, access-kept}
+use Rattle.meaning.proofs.Listed.{res0-left}
+use Rattle.meaning.proofs.After.{cell-present}
+use Rattle.promises.proofs.Deeds.{by-access, by-place, idle-left}
 use Rattle.promises.proofs.Refused.{step-left}
 use Rattle.separation.specs.Steps.{PrivateStep, unchanging}
 
--- reads
-pub a-read : (s : Shape) (cells : Cells) (a : Access) → a .way ≡ Read → PrivateStep s cells (access a)
-unfolding act
-a-read s cells a h = unchanging (access a) (λ m. by (placeOf (a .frame) (a .width) (a .offset)) m)
-  where
-    by : (d : Decoded) (m : ℕ) → accessed s a d m (cells m) ≡ cells m
-    by (decoded.Refused r) m = refl
-    by (decoded.At p) m = ap (λ (w : Way). elim w as (λ z. Cell) [ Read ↦ cells m | Write ↦ written s (a .side) p (writtenValue (a .width) (a .value)) m (cells m) ]) h
-
--- refused steps, for whatever reason: a Secure activation refused 9 is one
-pub refused-step : (s : Shape) (cells : Cells) (q : Step) (r : Refusal) → answer s q cells ≡ Refused r → PrivateStep s cells q
-refused-step s cells q r h = unchanging q (λ m. step-left s q cells r m h)
-
--- writes that reach no interrupt
-reaches-none : (s : Shape) (cells : Cells) (a : Access) (p : Place) → placeOf (a .frame) (a .width) (a .offset) ≡ decoded.At p → ((m : ℕ) → reachedBy s a p m ≡ false) → PrivateStep s cells (access a)
-reaches-none s cells a p e h = unchanging (access a) (λ m. access-kept s a p e m (cells m) (h m))
-
-pub typer-write : (s : Shape) (cells : Cells) (a : Access) → placeOf (a .frame) (a .width) (a .offset) ≡ decoded.At place.Typer → PrivateStep s cells (access a)
-typer-write s cells a e = reaches-none s cells a place.Typer e (λ m. refl)
-
-names-none : (p : Place) → count p ≡ 0 → (m : ℕ) → names p m ≡ false
-unfolding names
-names-none p z m = by (between (first p) (first p + count p) m) refl
-  where
-    by : (b : Bool) → between (first p) (first p + count p) m ≡ b → b ≡ false
-    by true e = absurd (let l = between-low (first p) (first p + count p) m e in let u = between-high (first p) (first p + count p) m e in omega arith)
-    by false e = refl
-
--- a write to a res0 word
-pub res0-write : (s : Shape) (cells : Cells) (a : Access) (r : Frame) (f : _) (n : ℕ) → placeOf (a .frame) (a .width) (a .offset) ≡ decoded.At (place.Word r f n) → count (place.Word r f n) ≡ 0
-    → PrivateStep s cells (access a)
-res0-write s cells a r f n e z = reaches-none s cells a (place.Word r f n) e (names-none (place.Word r f n) z)
-
--- a write to a message register with mbis no, or one naming no SPI
-pub no-messages : (s : Shape) (cells : Cells) (a : Access) (g : message.Message) → placeOf (a .frame) (a .width) (a .offset) ≡ decoded.At (place.Message g) → s .mbis ≡ false
-    → PrivateStep s cells (access a)
+-- without messages, none is named
+none-addressed : (s : Shape) (v : ℕ) (i : Interrupt) → s .mbis ≡ false → addresses s v i ≡ false
 unfolding addresses
-no-messages s cells a g e h =
-    reaches-none s cells a (place.Message g) e (λ m. ap (λ (b : Bool). b && (eqb m (writtenValue (a .width) (a .value) % 8192) && spi m)) h)
+none-addressed s v (shared m) h = ap (λ (b : Bool). b && eqb m (v % 8192)) h
+none-addressed s v (own m) h = refl
 
-shut : (a b c : Bool) → ((a && (b && c)) ≡ true → ⊥) → (a && (b && c)) ≡ false
-shut true true true h = absurd (h refl)
-shut true true false h = refl
-shut true false c h = refl
-shut false b c h = refl
-
-pub no-spi : (s : Shape) (cells : Cells) (a : Access) (g : message.Message) → placeOf (a .frame) (a .width) (a .offset) ≡ decoded.At (place.Message g)
-    → spi (writtenValue (a .width) (a .value) % 8192) ≡ false → PrivateStep s cells (access a)
-unfolding addresses
-no-spi s cells a g e h =
-    reaches-none s cells a (place.Message g) e
-    (λ m.
-    shut (s .mbis) (eqb m (writtenValue (a .width) (a .value) % 8192)) (spi m)
+-- the SGIs' fields ignore writes
+sgi-word : (s : Shape) (side : Side) (v : ℕ) (i : Interrupt) (c : Cell)
+    → performed s (writeTo side v (targetOf (place.Word Redist Icfgr 0))) i c ≡ c
+unfolding performed aims admits effect names targetOf rowOf sgi
+sgi-word s side v (shared m) c = refl
+sgi-word s side v (own m) c =
+    cond-keeps (λ (z : Cell). z) (between 0 16 m && reaches s side Write Trigger (own m) c) _ c
     (λ t.
-    let there = and-right (s .mbis) (eqb m (writtenValue (a .width) (a .value) % 8192) && spi m) t in
-    let same = eqb-true m (writtenValue (a .width) (a .value) % 8192) (and-left (eqb m (writtenValue (a .width) (a .value) % 8192)) (spi m) there) in
-    clash (and-right (eqb m (writtenValue (a .width) (a .value) % 8192)) (spi m) there) (ap spi same ∙ h)))
+    let low = lt-ltb m 16 (between-high 0 16 m (and-left (between 0 16 m) _ t)) in
+    field-ignored s side (own m) c _ (ap (λ (b : Bool). b || c .enabled) low))
 
--- a write to Redistributor ICFGR word 0, the SGIs' fields
-sgi-word : (side : Side) (v m : ℕ) (c : Cell) → wordWritten side Icfgr (place.Word Redist Icfgr 0) v m c ≡ c
-unfolding wordWritten touched names first count res0 sgi fixedField
-sgi-word side v m c =
-    gated-keeps (λ (z : Cell). z) (names (place.Word Redist Icfgr 0) m) (touched side Icfgr (digitAt (digitBits Icfgr) (m - first (place.Word Redist Icfgr 0)) v) m c) c
-    (λ t.
-    gated-keeps (λ (z : Cell). z) (reaches side Icfgr c) (update Icfgr (digitAt (digitBits Icfgr) (m - first (place.Word Redist Icfgr 0)) v) m c) c
-    (λ u. field-ignored (digitAt (digitBits Icfgr) (m - first (place.Word Redist Icfgr 0)) v) m c (ap (λ (b : Bool). b || c .enabled) (lt-ltb m 16 (between-high 0 16 m t)))))
+module _ (s : Shape) (cells : Cells) where
+  -- refused steps, for whatever reason: a Secure activation refused 9 is one
+  pub refused-step : (q : Step) (r : Refusal) → answer s q cells ≡ Refused r → PrivateStep s cells q
+  refused-step q r h = unchanging q (λ i. step-left s q cells r i h)
 
-pub sgi-fields : (s : Shape) (cells : Cells) (a : Access) → placeOf (a .frame) (a .width) (a .offset) ≡ decoded.At (place.Word Redist Icfgr 0) → PrivateStep s cells (access a)
-unfolding act written
-sgi-fields s cells a e = unchanging (access a) (λ m. ap (λ (d : Decoded). accessed s a d m (cells m)) e ∙ by (a .way) m)
-  where
-    by : (w : Way) (m : ℕ) → elim w as (λ z. Cell) [ Read ↦ cells m | Write ↦ written s (a .side) (place.Word Redist Icfgr 0) (writtenValue (a .width) (a .value)) m (cells m) ] ≡ cells m
-    by Read m = refl
-    by Write m = sgi-word (a .side) (writtenValue (a .width) (a .value)) m (cells m)
+  module _ (a : Access) where
+    abbrev Leaves : Interrupt → Deed → Type 0
+    Leaves i d = performed s d i (cells i) ≡ cells i
+
+    -- reads
+    pub a-read : a .way ≡ Read → PrivateStep s cells (access a)
+    unfolding act
+    a-read h =
+        unchanging (access a)
+        (λ i. by-access (Leaves i) a (idle-left s i (cells i)) (λ p e w. absurd (let z : _≡_ {A = ℕ} 0 1 = cc in omega arith)))
+
+    -- writes to a place that changes nothing
+    write-left : (p : Place) → placeOf a ≡ At p → ((i : Interrupt) → Leaves i (writeTo (a .side) (writtenValue a) (targetOf p)))
+        → PrivateStep s cells (access a)
+    unfolding act
+    write-left p e h = unchanging (access a) (λ i. by-place (Leaves i) a (idle-left s i (cells i)) p e (λ w. h i))
+
+    pub typer-write : placeOf a ≡ At place.Typer → PrivateStep s cells (access a)
+    unfolding targetOf
+    typer-write e = write-left place.Typer e (λ i. idle-left s i (cells i))
+
+    -- a res0 word: one of the Distributor that begins with an INTID below 32
+    pub res0-write : (f : Family) (n : ℕ) → perWord f * n < 32 → placeOf a ≡ At (place.Word Dist f n) → PrivateStep s cells (access a)
+    res0-write f n l e =
+        write-left (place.Word Dist f n) e (λ i. res0-left s (a .side) f n (lt-ltb (perWord f * n) 32 l) (writtenValue a) i (cells i))
+
+    -- Redistributor ICFGR word 0
+    pub sgi-fields : placeOf a ≡ At (place.Word Redist Icfgr 0) → PrivateStep s cells (access a)
+    sgi-fields e = write-left (place.Word Redist Icfgr 0) e (λ i. sgi-word s (a .side) (writtenValue a) i (cells i))
+
+    -- a message register with mbis no ..
+    pub no-messages : (g : Message) → placeOf a ≡ At (place.Message g) → s .mbis ≡ false → PrivateStep s cells (access a)
+    unfolding targetOf aims
+    no-messages g e h =
+        write-left (place.Message g) e
+        (λ i. unaimed-left s (send (a .side) g (writtenValue a)) i (cells i) (none-addressed s (writtenValue a) i h))
+
+    -- .. or a message that names a missing interrupt
+    pub missing-message : (g : Message) → placeOf a ≡ At (place.Message g) → (cells (shared (writtenValue a % 8192))) .implemented ≡ false
+        → PrivateStep s cells (access a)
+    unfolding targetOf aims
+    missing-message g e h = write-left (place.Message g) e (λ i. by i (addresses s (writtenValue a) i) refl)
+      where
+        by : (i : Interrupt) (b : Bool) → addresses s (writtenValue a) i ≡ b → Leaves i (send (a .side) g (writtenValue a))
+        by i true t =
+            missing-left s i (cells i) (send (a .side) g (writtenValue a)) refl
+            (ap (λ (j : Interrupt). (cells j) .implemented) (addressed s (writtenValue a) i t) ∙ h)
+        by i false t = unaimed-left s (send (a .side) g (writtenValue a)) i (cells i) t
+
+-- on the lent tables a number that is no SPI's and no extended SPI's names a missing interrupt
+pub no-spi : (s : Shape) (t : Tables) (a : Access) (g : Message) → placeOf a ≡ At (place.Message g)
+    → homeOf (shared (writtenValue a % 8192)) ≡ nowhere → PrivateStep s (cellOf s t) (access a)
+unfolding implemented
+no-spi s t a g e h =
+    let i = shared (writtenValue a % 8192) in
+    missing-message s (cellOf s t) a g e
+    (cell-present s t i ∙ (ap (λ (z : Home). inRange s i && presentAt t (intid i % 32) z) h ∙ and-false (inRange s i)))
+
+-- a Secure write to a place
+pub secure-deed : (a : Access) (p : Place) → a .side ≡ Secure → a .way ≡ Write → placeOf a ≡ At p
+    → deedOf (access a) ≡ writeTo Secure (writtenValue a) (targetOf p)
+unfolding deedOf
+secure-deed a p h w e =
+    ap (accessed a) e
+    ∙ (ap (λ (x : Way). elim x as (λ z. Deed) [ Read ↦ idle | Write ↦ writeTo (a .side) (writtenValue a) (targetOf p) ]) w
+    ∙ ap (λ (x : Side). writeTo x (writtenValue a) (targetOf p)) h)
+
+pub set-and-clear : (kindOf Isenabler ≡ Switched true Enable) × (kindOf Icenabler ≡ Switched false Enable)
+    × (kindOf Ispendr ≡ Switched true Pending) × (kindOf Icpendr ≡ Switched false Pending)
+    × (kindOf Isactiver ≡ Switched true Active) × (kindOf Icactiver ≡ Switched false Active)
+unfolding rowOf
+set-and-clear = (refl, refl, refl, refl, refl, refl)

@@ -1,238 +1,218 @@
--- CLAUSE 3: what the Non-secure side sets, it reads back. After a write of v to a set register (enable, pending, active) the
--- word reads: the old word, or v and the owned bits; after a write to a clear register (enable, active): the old word, and not
--- v. Exactly, in every digit.
+-- WHAT THE NON-SECURE SIDE SETS, IT READS BACK. After a write of v to a set register (enable, pending, active) the word reads: the old
+-- word, or v and the owned bits; after a write to a clear register (enable, active): the old word, and not v. Exactly, in every digit.
+--   read-back, cleared-back   on the lent tables, at any listed word of the kind
+--   ispendr-dist, ispendr-extended, ispendr-redist   the demand's own: the set-pending words are such
 use mathlib.Core.Path.{_≡_, refl, sym, ap, ap₂, _∙_}
 use mathlib.Core.Bool.{Bool, true, false, cond, not, _&&_, _||_}
-use Prim.Native.Nat.{ℕ, _+_, _-_, _%_, _≤_}
+use Prim.Native.Nat.{ℕ, _+_, _-_, _*_, _%_, _≤_, _<_}
 use native.Mathlib.Omega.{arith}
 use lib.Dec.{eqb}
 use Rattle.lists.specs.Word.{digit, digitAt, row}
-use Rattle.lists.proofs.Bools.{clash}
+use Rattle.lists.proofs.Bools.{both, clash}
 use Rattle.lists.proofs.Rows.{row-same}
-use Rattle.types.specs.declared.Side.{Side}
-use Rattle.types.specs.declared.Side.the-variants.{Secure, NonSecure}
+use Rattle.lists.proofs.Tables.{tabulate, tabulate-same}
+use Rattle.types.specs.declared.Side.the-variants.{NonSecure}
 use Rattle.types.specs.declared.Frame.{Frame}
-use Rattle.types.specs.declared.Family.{Family}
-use Rattle.types.specs.declared.Family.the-variants.{Igroupr, Isenabler, Icenabler, Ispendr, Icpendr, Isactiver, Icactiver, Igrpmodr, Icfgr}
+use Rattle.types.specs.declared.Frame.the-variants.{Dist, Redist}
 use Rattle.types.specs.declared.Shape.{Shape}
+use Rattle.types.specs.declared.Switch.{Switch}
+use Rattle.types.specs.declared.Switch.the-variants.{Enable, Pending, Active}
+use Rattle.types.specs.declared.Kind.{Kind}
+use Rattle.types.specs.declared.Kind.the-variants.{Switched}
+use Rattle.types.specs.declared.Way.{Way}
 use Rattle.types.specs.declared.Way.the-variants.{Read, Write}
+use Rattle.types.specs.declared.Access.{Access}
+use Rattle.types.specs.declared.Family.the-variants.{Ispendr}
 use Rattle.types.specs.declared.Place.{Place}
 use Rattle.types.specs.declared.Place.the-variants as place
+use Rattle.types.specs.declared.Window.{Window}
+use Rattle.types.specs.declared.Target.{Target}
+use Rattle.types.specs.declared.Target.the-variants as target
 use Rattle.types.specs.declared.Decoded.{Decoded}
 use Rattle.types.specs.declared.Decoded.the-variants.{At}
-use Rattle.types.specs.declared.Answer.{Answer}
 use Rattle.types.specs.declared.Answer.the-variants.{Done}
-use Rattle.meaning.specs.Answers.{valueOf}
-use Rattle.meaning.specs.Cell.{Cell, get, put, nonSecure}
+use Rattle.meaning.specs.Interrupt.{Interrupt, intid, interrupt, inFrame, between}
+use Rattle.meaning.specs.Cell.{Cell, get, owned}
 use Rattle.meaning.specs.Layout.{Tables, wellFormed, cellOf}
-use Rattle.meaning.specs.Registers.{digitBits, listed, placeOf, first, count, names, writtenValue}
-use Rattle.meaning.specs.Rule.{access, gated, setter, sees, mayTouch, setting, clearing, update, shows, reaches, touched, visible, wordWritten, written, accessed, act}
-use Rattle.meaning.specs.Step.{Cells, wordRead, read, accessAnswer, answer, stepped}
-use Rattle.meaning.specs.Sides.{owned}
-use Rattle.meaning.proofs.Cells.{gated-true, gated-false}
-use Rattle.meaning.proofs.Effects.{set-shown, enable-cleared, active-cleared}
-use Rattle.meaning.proofs.Bytes.{digit-back as bit-back}
+use Rattle.meaning.specs.Registers.{rowOf, kindOf, bitsOf, inColumn, redistPlace, listed, writtenValue, targetOf, names}
+use Rattle.meaning.specs.Rule.{access, Deed, write, writeTo, accessed, deedOf, sees, mayTouch, reaches, update, stateOf}
+use Rattle.meaning.specs.Rule.{shows, visible, aims, admits, effect, performed, act}
+use Rattle.meaning.specs.Step.{Cells, wordRead, read, accessAnswer, answer}
+use Rattle.meaning.proofs.Bytes.{digit-back}
+use Rattle.meaning.proofs.Choices.{cond-true, cond-alike}
+use Rattle.meaning.proofs.Sides.{rewrites}
+use Rattle.meaning.proofs.Kept.{owned-kept}
+use Rattle.meaning.proofs.Effects.{set-shown, bit-cleared}
 use Rattle.meaning.proofs.Homes.{between-in}
-use Rattle.meaning.proofs.After.{cell-after}
-use Rattle.separation.specs.Steps.{WordOf, word, extended}
-use Rattle.separation.proofs.Answered.{listed-placed}
-use Rattle.separation.specs.ReadBack.{clearsShown, oldOrOwned, oldAndNot, nonSecureWord}
-use Rattle.engine.proofs.Facts.{lengths-fit}
-use Rattle.promises.proofs.Records.{tables-well}
-use Rattle.promises.proofs.Refused.{answer-well, well-kept}
+use Rattle.meaning.proofs.After.{answer-well, well-kept, cells-stepped}
 use Rattle.promises.proofs.Shown.{digit-read}
+use Rattle.separation.specs.Steps.{one}
+use Rattle.separation.specs.ReadBack.{ListedAt, nonSecureWord, readAt, writtenAt, oldOrOwned, oldAndNot, clearsShown}
+use Rattle.separation.proofs.Answered.{listed-placed}
 
--- a law of the three set families
-by-setter : (P : Family → Type 0) → P Isenabler → P Ispendr → P Isactiver → (f : Family) → setter f ≡ true → P f
-by-setter P e p a Igroupr h = absurd (clash h refl)
-by-setter P e p a Isenabler h = e
-by-setter P e p a Icenabler h = absurd (clash h refl)
-by-setter P e p a Ispendr h = p
-by-setter P e p a Icpendr h = absurd (clash h refl)
-by-setter P e p a Isactiver h = a
-by-setter P e p a Icactiver h = absurd (clash h refl)
-by-setter P e p a Igrpmodr h = absurd (clash h refl)
-by-setter P e p a Icfgr h = absurd (clash h refl)
+-- the interrupts of a window's digits
+intid-of : (r : Frame) (m : ℕ) → intid (interrupt r m) ≡ m
+intid-of Dist m = refl
+intid-of Redist m = refl
 
--- the gate of a set family is ownership, and setting leaves it
-setter-open : (f : Family) (c : Cell) → setter f ≡ true → reaches NonSecure f c ≡ owned c
-unfolding reaches mayTouch sees owned
-setter-open f c = by-setter (λ g. reaches NonSecure g c ≡ owned c) refl refl refl f
+in-frame : (r : Frame) (m : ℕ) → inFrame r (interrupt r m) ≡ true
+in-frame Dist m = refl
+in-frame Redist m = refl
 
-gate-kept : (f : Family) (d m : ℕ) (c : Cell) → setter f ≡ true → reaches NonSecure f (update f d m c) ≡ reaches NonSecure f c
-unfolding reaches mayTouch sees nonSecure update setting get put
-gate-kept f d m c = by-setter (λ g. reaches NonSecure g (update g d m c) ≡ reaches NonSecure g c) refl refl refl f
+named-by : (w : Window) (x : ℕ) → x < w .count → names w (interrupt (w .frame) (w .first + x)) ≡ true
+unfolding names
+named-by w x l =
+    both (inFrame (w .frame) _) _ (in-frame (w .frame) (w .first + x))
+    (ap (between (w .first) (w .first + w .count)) (intid-of (w .frame) (w .first + x))
+    ∙ between-in (w .first) (w .first + w .count) (w .first + x) (omega arith) (omega arith))
 
-or-of-shut : (b : Bool) → 0 ≡ digit ((b && false) || eqb 0 1)
-or-of-shut true = refl
-or-of-shut false = refl
+digit-of : (w : Window) (x : ℕ) → intid (interrupt (w .frame) (w .first + x)) - w .first ≡ x
+digit-of w x = ap (λ (n : ℕ). n - w .first) (intid-of (w .frame) (w .first + x)) ∙ omega arith
 
-or-of-owned : (x y : Bool) → digit ((x && true) || y) ≡ digit (x || y)
-or-of-owned true y = refl
-or-of-owned false y = refl
+-- A SET OR CLEAR FAMILY whose state after a digit was written is G of that digit, and of the state before
+abbrev After : Shape → Bool → Switch → (Bool → Bool → Bool) → Type 0
+After s on b G =
+    (d : ℕ) (i : Interrupt) (c : Cell) → stateOf s b i (update s NonSecure (Switched on b) d i c) ≡ G (eqb d 1) (stateOf s b i c)
 
--- one digit: what is seen after the digit d was written
-pub digit-back : (f : Family) (d m : ℕ) (c : Cell) → setter f ≡ true → visible NonSecure f m (touched NonSecure f d m c) ≡ digit ((eqb d 1 && owned c) || eqb (visible NonSecure f m c) 1)
-unfolding touched visible
-digit-back f d m c h = by (reaches NonSecure f c) refl
-  where
-    by : (b : Bool) → reaches NonSecure f c ≡ b → visible NonSecure f m (touched NonSecure f d m c) ≡ digit ((eqb d 1 && owned c) || eqb (visible NonSecure f m c) 1)
-    by true e =
-        ap (visible NonSecure f m) (gated-true (reaches NonSecure f c) (update f d m c) c e)
-        ∙ (ap (λ (b : Bool). cond b (shows f m (update f d m c)) 0) (gate-kept f d m c h ∙ e)
-        ∙ (set-shown f d m c h
-        ∙ (sym (ap₂ (λ (o r : Bool). digit ((eqb d 1 && o) || eqb (cond r (shows f m c) 0) 1)) (sym (setter-open f c h) ∙ e) e ∙ or-of-owned (eqb d 1) (eqb (shows f m c) 1)))))
-    by false e =
-        ap (visible NonSecure f m) (gated-false (reaches NonSecure f c) (update f d m c) c e)
-        ∙ (ap (λ (b : Bool). cond b (shows f m c) 0) e
-        ∙ (or-of-shut (eqb d 1)
-        ∙ sym (ap₂ (λ (o r : Bool). digit ((eqb d 1 && o) || eqb (cond r (shows f m c) 0) 1)) (sym (setter-open f c h) ∙ e) e)))
+module _ (s : Shape) (on : Bool) (b : Switch) (G : Bool → Bool → Bool) (state : After s on b G) where
+  seen : (i : Interrupt) (c : Cell) → visible s NonSecure (Switched on b) i c ≡ cond (owned c) (digit (stateOf s b i c)) 0
+  unfolding visible reaches mayTouch sees owned shows
+  seen i c = refl
 
--- a law of the clear families that show the bit they clear
-by-clearer : (P : Family → Type 0) → P Icenabler → P Icactiver → (f : Family) → clearsShown f ≡ true → P f
-by-clearer P e a Igroupr h = absurd (clash h refl)
-by-clearer P e a Isenabler h = absurd (clash h refl)
-by-clearer P e a Icenabler h = e
-by-clearer P e a Ispendr h = absurd (clash h refl)
-by-clearer P e a Icpendr h = absurd (clash h refl)
-by-clearer P e a Isactiver h = absurd (clash h refl)
-by-clearer P e a Icactiver h = a
-by-clearer P e a Igrpmodr h = absurd (clash h refl)
-by-clearer P e a Icfgr h = absurd (clash h refl)
+  -- a word of it, where F gives the new digit from the written one, whether its interrupt is owned, and the old one
+  module _ (w : Window) (kind : kindOf (w .family) ≡ Switched on b) (v : ℕ) (cells : Cells) (F : Bool → Bool → Bool → Bool)
+      (form : (o x y : Bool) → cond o (digit (G x y)) 0 ≡ digit (F x o (eqb (cond o (digit y) 0) 1))) where
+    abbrev ith : ℕ → Interrupt
+    ith x = interrupt (w .frame) (w .first + x)
 
-clear-kept : (f : Family) (d m : ℕ) (c : Cell) → clearsShown f ≡ true → reaches NonSecure f (update f d m c) ≡ reaches NonSecure f c
-unfolding reaches mayTouch sees nonSecure update clearing get put
-clear-kept f d m c = by-clearer (λ g. reaches NonSecure g (update g d m c) ≡ reaches NonSecure g c) refl refl f
+    abbrev after : Interrupt → Cell
+    after i = performed s (write NonSecure w v) i (cells i)
 
-clear-shown : (f : Family) (d m : ℕ) (c : Cell) → clearsShown f ≡ true → shows f m (update f d m c) ≡ digit (not (eqb d 1) && eqb (shows f m c) 1)
-unfolding shows
-clear-shown f d m c =
-    by-clearer (λ g. shows g m (update g d m c) ≡ digit (not (eqb d 1) && eqb (shows g m c) 1))
-    (enable-cleared d m c ∙ ap (λ (b : Bool). digit (not (eqb d 1) && b)) (sym (bit-back (c .enabled))))
-    (active-cleared d m c ∙ ap (λ (b : Bool). digit (not (eqb d 1) && b)) (sym (bit-back (c .active)))) f
+    -- what is owned is written ..
+    state-new : (x : ℕ) → x < w .count → owned (cells (ith x)) ≡ true
+        → stateOf s b (ith x) (after (ith x)) ≡ G (one w v x) (stateOf s b (ith x) (cells (ith x)))
+    unfolding performed aims admits effect reaches mayTouch sees owned
+    state-new x l o =
+        let i = ith x in
+        let c = cells (ith x) in
+        let gate = both (names w i) _ (named-by w x l) (ap (λ (k : Kind). reaches s NonSecure Write k i c) kind ∙ o) in
+        ap (stateOf s b i)
+        (cond-true _ _ c gate
+        ∙ ap₂ (λ (k : Kind) (n : ℕ). update s NonSecure k (digitAt (bitsOf (w .family)) n v) i c) kind (digit-of w x))
+        ∙ state (digitAt (bitsOf (w .family)) x v) i c
 
-and-of-shut : (b : Bool) → 0 ≡ digit (b && eqb 0 1)
-and-of-shut true = refl
-and-of-shut false = refl
+    -- .. and stays owned
+    still-owned : (i : Interrupt) → owned (after i) ≡ owned (cells i)
+    unfolding rewrites
+    still-owned i = owned-kept s i (cells i) (write NonSecure w v) refl
 
-pub digit-cleared : (f : Family) (d m : ℕ) (c : Cell) → clearsShown f ≡ true → visible NonSecure f m (touched NonSecure f d m c) ≡ digit (not (eqb d 1) && eqb (visible NonSecure f m c) 1)
-unfolding touched visible
-digit-cleared f d m c h = by (reaches NonSecure f c) refl
-  where
-    by : (b : Bool) → reaches NonSecure f c ≡ b → visible NonSecure f m (touched NonSecure f d m c) ≡ digit (not (eqb d 1) && eqb (visible NonSecure f m c) 1)
-    by true e =
-        ap (visible NonSecure f m) (gated-true (reaches NonSecure f c) (update f d m c) c e)
-        ∙ (ap (λ (b : Bool). cond b (shows f m (update f d m c)) 0) (clear-kept f d m c h ∙ e)
-        ∙ (clear-shown f d m c h ∙ sym (ap (λ (r : Bool). digit (not (eqb d 1) && eqb (cond r (shows f m c) 0) 1)) e)))
-    by false e =
-        ap (visible NonSecure f m) (gated-false (reaches NonSecure f c) (update f d m c) c e)
-        ∙ (ap (λ (b : Bool). cond b (shows f m c) 0) e
-        ∙ (and-of-shut (not (eqb d 1)) ∙ sym (ap (λ (r : Bool). digit (not (eqb d 1) && eqb (cond r (shows f m c) 0) 1)) e)))
+    digit-new : (x : ℕ) → x < w .count
+        → visible s NonSecure (kindOf (w .family)) (ith x) (after (ith x))
+        ≡ digit (F (one w v x) (owned (cells (ith x))) (one w (wordRead s NonSecure w cells) x))
+    digit-new x l =
+        let i = ith x in
+        let c = cells (ith x) in
+        let was = digit-read s NonSecure w x l cells ∙ (ap (λ (k : Kind). visible s NonSecure k i c) kind ∙ seen i c) in
+        ap (λ (k : Kind). visible s NonSecure k i (after i)) kind
+        ∙ (seen i (after i)
+        ∙ (ap (λ (o : Bool). cond o (digit (stateOf s b i (after i))) 0) (still-owned i)
+        ∙ (cond-alike (λ (n : ℕ). n) (λ (n : ℕ). n) (owned c) _ 0 _ 0 (λ o. ap digit (state-new x l o)) (λ o. refl)
+        ∙ (form (owned c) (one w v x) (stateOf s b i c) ∙ ap (λ (n : ℕ). digit (F (one w v x) (owned c) (eqb n 1))) (sym was)))))
 
--- the places that hold a word of the family f
-pub record Holds (f : Family) (p : Place) : Type 0 where
-  pub reading : (s : Shape) (side : Side) (cells : Cells) → read s side p cells ≡ wordRead side f p cells
-  pub writing : (s : Shape) (side : Side) (v m : ℕ) (c : Cell) → written s side p v m c ≡ wordWritten side f p v m c
+    word-after : wordRead s NonSecure w after
+        ≡ row (bitsOf (w .family)) (w .count) (λ x. digit (F (one w v x) (owned (cells (ith x))) (one w (wordRead s NonSecure w cells) x)))
+    unfolding wordRead
+    word-after = row-same (bitsOf (w .family)) (w .count) _ _ digit-new
 
-pub word-holds : (r : Frame) (f : Family) (n : ℕ) → Holds f (place.Word r f n)
-unfolding read written
-word-holds r f n = record { reading = λ s side cells. refl; writing = λ s side v m c. refl }
+-- THE TWO FORMS
+set-form : (o x y : Bool) → cond o (digit (x || y)) 0 ≡ digit ((x && o) || eqb (cond o (digit y) 0) 1)
+set-form true true y = refl
+set-form true false y = ap digit (sym (digit-back y))
+set-form false true y = refl
+set-form false false y = refl
 
-pub extended-holds : (r : Frame) (f : Family) (n : ℕ) → Holds f (place.Extended r f n)
-unfolding read written
-extended-holds r f n = record { reading = λ s side cells. refl; writing = λ s side v m c. refl }
+clear-form : (o x y : Bool) → cond o (digit (not x && y)) 0 ≡ digit (not x && eqb (cond o (digit y) 0) 1)
+clear-form true true y = refl
+clear-form true false y = ap digit (sym (digit-back y))
+clear-form false true y = refl
+clear-form false false y = refl
 
--- a whole word after a write: each digit is what is seen of its interrupt after its own digit was written
-word-after : (f : Family) (p : Place) (v : ℕ) (cells : Cells)
-    → wordRead NonSecure f p (λ m. wordWritten NonSecure f p v m (cells m)) ≡ row (digitBits f) (count p) (λ x. visible NonSecure f (first p + x) (touched NonSecure f (digitAt (digitBits f) x v) (first p + x) (cells (first p + x))))
-unfolding wordRead wordWritten names
-word-after f p v cells =
-    row-same (digitBits f) (count p) _ _
-    (λ x l.
-    let inside : names p (first p + x) ≡ true = between-in (first p) (first p + count p) (first p + x) (omega arith) (omega arith) in
-    let here : (first p + x) - first p ≡ x = omega arith in
-    ap (visible NonSecure f (first p + x)) (gated-true (names p (first p + x)) _ _ inside ∙ ap (λ (k : ℕ). touched NonSecure f (digitAt (digitBits f) k v) (first p + x) (cells (first p + x))) here))
+clear-shown : (s : Shape) (b : Switch) → clearsShown b ≡ true → After s false b (λ x y. not x && y)
+unfolding get
+clear-shown s Enable h d i c = bit-cleared s NonSecure i c Enable d
+clear-shown s Pending h d i c = absurd (clash h refl)
+clear-shown s Active h d i c = bit-cleared s NonSecure i c Active d
 
-word-back : (f : Family) (p : Place) (v : ℕ) (cells : Cells) → setter f ≡ true → wordRead NonSecure f p (λ m. wordWritten NonSecure f p v m (cells m)) ≡ oldOrOwned f p (wordRead NonSecure f p cells) v cells
-unfolding oldOrOwned
-word-back f p v cells h =
-    word-after f p v cells
-    ∙ row-same (digitBits f) (count p) _ _
-    (λ x l.
-    digit-back f (digitAt (digitBits f) x v) (first p + x) (cells (first p + x)) h
-    ∙ ap (λ (z : ℕ). digit ((eqb (digitAt (digitBits f) x v) 1 && owned (cells (first p + x))) || eqb z 1)) (sym (digit-read NonSecure f p cells x l)))
+-- ON THE LENT TABLES, at any listed word, in either frame
+module _ (s : Shape) (t : Tables) (well : wellFormed s t ≡ true) (r : Frame) (o : ℕ) (p : Place) (listed-at : ListedAt r o p)
+    (w : Window) (word : targetOf p ≡ target.Digits w) where
+  asked : Way → ℕ → Access
+  asked x v = record { frame = r; side = NonSecure; way = x; width = 4; offset = o; value = v }
 
-word-cleared : (f : Family) (p : Place) (v : ℕ) (cells : Cells) → clearsShown f ≡ true → wordRead NonSecure f p (λ m. wordWritten NonSecure f p v m (cells m)) ≡ oldAndNot f p (wordRead NonSecure f p cells) v
-unfolding oldAndNot
-word-cleared f p v cells h =
-    word-after f p v cells
-    ∙ row-same (digitBits f) (count p) _ _
-    (λ x l.
-    digit-cleared f (digitAt (digitBits f) x v) (first p + x) (cells (first p + x)) h
-    ∙ ap (λ (z : ℕ). digit (not (eqb (digitAt (digitBits f) x v) 1) && eqb z 1)) (sym (digit-read NonSecure f p cells x l)))
+  -- a read shows the word of the interrupts as they are
+  word-read : (u : Tables) → wellFormed s u ≡ true → (y : ℕ) → readAt s r o y u ≡ Done (wordRead s NonSecure w (cellOf s u))
+  unfolding answer read asked
+  word-read u h y =
+      answer-well s (access (asked Read y)) u h
+      ∙ (ap (λ (d : Decoded). accessAnswer s (asked Read y) d (cellOf s u)) (listed-placed r o p listed-at NonSecure Read y)
+      ∙ ap (λ (g : Target). Done (read s NonSecure g (cellOf s u))) word)
 
-after-write : (s : Shape) (r : Frame) (f : Family) (p : Place) → Holds f p → (o v : ℕ) → placeOf r 4 o ≡ At p → (m : ℕ) (c : Cell)
-    → act s (nonSecureWord r Write o v) m c ≡ wordWritten NonSecure f p v m c
-unfolding act writtenValue
-after-write s r f p k o v e m c =
-    ap (λ (d : Decoded). accessed s (record { frame = r; side = NonSecure; way = Write; width = 4; offset = o; value = v }) d m c) e ∙ k .writing s NonSecure v m c
+  write-deed : (v : ℕ) → deedOf (nonSecureWord r Write o v) ≡ write NonSecure w v
+  unfolding deedOf writtenValue asked
+  write-deed v = ap (accessed (asked Write v)) (listed-placed r o p listed-at NonSecure Write v) ∙ ap (writeTo NonSecure v) word
 
--- on the lent tables, whatever stands in them: a write, then a read, shows the word after the write
-written-read : (s : Shape) (t : Tables) → wellFormed s t ≡ true → (r : Frame) (f : Family) (p : Place) → Holds f p → (o v z : ℕ) → placeOf r 4 o ≡ At p
-    → (stepped s (nonSecureWord r Read o z) ((stepped s (nonSecureWord r Write o v) t) .tables)) .answered ≡ Done (wordRead NonSecure f p (λ m. wordWritten NonSecure f p v m (cellOf s t m)))
-unfolding answer
-written-read s t well r f p k o v z e =
-    answer-well s (nonSecureWord r Read o z) after (well-kept s (nonSecureWord r Write o v) t well)
-    ∙ (ap (λ (d : Decoded). accessAnswer s (record { frame = r; side = NonSecure; way = Read; width = 4; offset = o; value = z }) d (cellOf s after)) e
-    ∙ ap Done (k .reading s NonSecure (cellOf s after) ∙ ap (wordRead NonSecure f p) (λ i m. cells m i)))
-  where
-    after : Tables
-    after = (stepped s (nonSecureWord r Write o v) t) .tables
+  -- and after a write the interrupts are those of its deed
+  written-read : (v z : ℕ)
+      → readAt s r o z (writtenAt s r o v t) ≡ Done (wordRead s NonSecure w (λ i. performed s (write NonSecure w v) i (cellOf s t i)))
+  unfolding act
+  written-read v z =
+      word-read (writtenAt s r o v t) (well-kept s (nonSecureWord r Write o v) t well) z
+      ∙ ap (λ (cells : Cells). Done (wordRead s NonSecure w cells)) (λ x i. cell i x)
+    where
+      cell : (i : Interrupt) → cellOf s (writtenAt s r o v t) i ≡ performed s (write NonSecure w v) i (cellOf s t i)
+      cell i = cells-stepped s (nonSecureWord r Write o v) t well i ∙ ap (λ (d : Deed). performed s d i (cellOf s t i)) (write-deed v)
 
-    cells : (m : ℕ) → cellOf s after m ≡ wordWritten NonSecure f p v m (cellOf s t m)
-    cells m =
-        ap (λ (u : Tables). cellOf s u m) (tables-well s (nonSecureWord r Write o v) t well)
-        ∙ (cell-after s (nonSecureWord r Write o v) t (lengths-fit s t well) m ∙ after-write s r f p k o v e m (cellOf s t m))
-
--- the word before the write, as a read shows it
-first-read : (s : Shape) (t : Tables) → wellFormed s t ≡ true → (r : Frame) (f : Family) (p : Place) → Holds f p → (o y : ℕ) → placeOf r 4 o ≡ At p
-    → (stepped s (nonSecureWord r Read o y) t) .answered ≡ Done (wordRead NonSecure f p (cellOf s t))
-unfolding answer
-first-read s t well r f p k o y e =
-    answer-well s (nonSecureWord r Read o y) t well
-    ∙ (ap (λ (d : Decoded). accessAnswer s (record { frame = r; side = NonSecure; way = Read; width = 4; offset = o; value = y }) d (cellOf s t)) e
-    ∙ ap Done (k .reading s NonSecure (cellOf s t)))
-
-done-value : (a : Answer) (v w : ℕ) → a ≡ Done v → a ≡ Done w → v ≡ w
-done-value a v w h k = ap valueOf (sym h ∙ k)
-
--- a listed word of the family holds it
-word-of : {p : Place} {f : Family} → WordOf p f → Holds f p
-word-of (word r f n) = word-holds r f n
-word-of (extended r f n) = extended-holds r f n
-
--- at any listed offset of a word of the family f, in either frame
-module _ (s : Shape) (t : Tables) (well : wellFormed s t ≡ true) (r : Frame) (o : ℕ) (small : o ≤ 65535) (aligned : o % 4 ≡ 0) (p : Place) (listed-at : listed r o ≡ At p) (f : Family) (of : WordOf p f) where
-  there : placeOf r 4 o ≡ At p
-  there = listed-placed r o p small aligned listed-at
-
-  holds : Holds f p
-  holds = word-of of
+  old-word : (old y : ℕ) → readAt s r o y t ≡ Done old → wordRead s NonSecure w (cellOf s t) ≡ old
+  old-word old y was = let e = sym (word-read t well y) ∙ was in cc
 
   -- Read, set (enable, pending or active), read: the old word, or v and the owned bits.
-  pub read-back : setter f ≡ true → (old v y z : ℕ) → (stepped s (nonSecureWord r Read o y) t) .answered ≡ Done old
-      → (stepped s (nonSecureWord r Read o z) ((stepped s (nonSecureWord r Write o v) t) .tables)) .answered ≡ Done (oldOrOwned f p old v (cellOf s t))
-  read-back h old v y z was =
-      written-read s t well r f p holds o v z there
-      ∙ ap Done
-      (word-back f p v (cellOf s t) h
-      ∙ ap (λ (w : ℕ). oldOrOwned f p w v (cellOf s t)) (done-value _ (wordRead NonSecure f p (cellOf s t)) old (first-read s t well r f p holds o y there) was))
+  pub read-back : (b : Switch) → kindOf (w .family) ≡ Switched true b → (old v y z : ℕ) → readAt s r o y t ≡ Done old
+      → readAt s r o z (writtenAt s r o v t) ≡ Done (oldOrOwned w old v (cellOf s t))
+  unfolding oldOrOwned
+  read-back b kind old v y z was =
+      written-read v z
+      ∙ (ap Done
+      (word-after s true b _||_ (λ d i c. set-shown s NonSecure i c b d) w kind v (cellOf s t) (λ x o y. (x && o) || y) set-form)
+      ∙ ap (λ (n : ℕ). Done (oldOrOwned w n v (cellOf s t))) (old-word old y was))
 
   -- Read, clear (enable or active), read: the old word, and not v.
-  pub cleared-back : clearsShown f ≡ true → (old v y z : ℕ) → (stepped s (nonSecureWord r Read o y) t) .answered ≡ Done old
-      → (stepped s (nonSecureWord r Read o z) ((stepped s (nonSecureWord r Write o v) t) .tables)) .answered ≡ Done (oldAndNot f p old v)
-  cleared-back h old v y z was =
-      written-read s t well r f p holds o v z there
-      ∙ ap Done
-      (word-cleared f p v (cellOf s t) h
-      ∙ ap (λ (w : ℕ). oldAndNot f p w v) (done-value _ (wordRead NonSecure f p (cellOf s t)) old (first-read s t well r f p holds o y there) was))
+  pub cleared-back : (b : Switch) → clearsShown b ≡ true → kindOf (w .family) ≡ Switched false b → (old v y z : ℕ)
+      → readAt s r o y t ≡ Done old → readAt s r o z (writtenAt s r o v t) ≡ Done (oldAndNot w old v)
+  unfolding oldAndNot
+  cleared-back b shown kind old v y z was =
+      written-read v z
+      ∙ (ap Done
+      (word-after s false b (λ x y. not x && y) (clear-shown s b shown) w kind v (cellOf s t) (λ x o y. not x && y) clear-form)
+      ∙ ap (λ (n : ℕ). Done (oldAndNot w n v)) (old-word old y was))
+
+-- THE DEMAND'S OWN: document 01's set-pending words. A column of the listed words is computed whole, at once.
+column : (r : Frame) (base n : ℕ) (at : ℕ → Place) → base % 4 ≡ 0 → base + 4 * n ≤ 65536
+    → tabulate (λ k. listed r (base + 4 * k)) 0 n ≡ tabulate (λ k. At (at k)) 0 n → (k : ℕ) → k < n → ListedAt r (base + 4 * k) (at k)
+column r base n at even small same k l =
+    record {
+      small = omega arith;
+      aligned = omega arith;
+      known = tabulate-same (λ k. listed r (base + 4 * k)) (λ k. At (at k)) n same k l;
+    }
+
+pub ispendr-dist : (n : ℕ) → n < 32 → ListedAt Dist (0x200 + 4 * n) (place.Word Dist Ispendr n)
+unfolding listed inColumn rowOf
+ispendr-dist = column Dist 0x200 32 (place.Word Dist Ispendr) refl (omega arith) refl
+
+pub ispendr-extended : (n : ℕ) → n < 32 → ListedAt Dist (0x1600 + 4 * n) (place.Extended Dist Ispendr n)
+unfolding listed inColumn rowOf
+ispendr-extended = column Dist 0x1600 32 (place.Extended Dist Ispendr) refl (omega arith) refl
+
+pub ispendr-redist : (n : ℕ) → n < 3 → ListedAt Redist (0x200 + 4 * n) (redistPlace Ispendr n)
+unfolding listed inColumn rowOf
+ispendr-redist = column Redist 0x200 3 (redistPlace Ispendr) refl (omega arith) refl
