@@ -1,8 +1,11 @@
-// What the message registers do to the record that a message names.
+// What the message registers do to the record that a message names: an SPI's or extended SPI's, so no SGI's.
 ghost use mathlib.Core.Path.{_≡_};
-ghost use mathlib.Core.Bool.{Bool};
+ghost use mathlib.Core.Bool.{Bool, false};
+ghost use Rattle.types.specs.declared.Shape.{Shape};
+ghost use Rattle.meaning.specs.Interrupt.{Interrupt, sgi};
 ghost use Rattle.meaning.specs.Cell.{decode, encode};
-ghost use Rattle.meaning.specs.Rule.{secureOnly, sets, maySend, messageSet, messageCleared, sent, delivered};
+ghost use Rattle.meaning.specs.Rule.{secureOnly, sets, maySend, sent};
+ghost use Rattle.messages.specs.Delivered.{delivered};
 use bits::put;
 use record::edge_of;
 use record::is_pending;
@@ -22,7 +25,7 @@ fn secure_only(g: Message) -> bool
     }
 }
 
-fn is_set(g: Message) -> bool
+fn sets(g: Message) -> bool
     ensures { λ x. ⌜ x ≡ sets g ⌝ }
 {
     match g {
@@ -33,8 +36,8 @@ fn is_set(g: Message) -> bool
     }
 }
 
-pub fn may_send(side: Side, g: Message, r: u8) -> bool
-    ensures { λ x. ⌜ ((i : Bool) → x ≡ maySend side g (decode i r)) ⌝ }
+fn may_send(side: Side, g: Message, r: u8) -> bool
+    ensures { λ x. ⌜ ((i : Interrupt) (p : Bool) → x ≡ maySend side g i (decode p r)) ⌝ }
 {
     match side {
         Side::Secure => true,
@@ -42,46 +45,26 @@ pub fn may_send(side: Side, g: Message, r: u8) -> bool
     }
 }
 
-// SETSPI does nothing to a pending interrupt.
-fn set_pending(m: u32, r: u8) -> u8
-    ensures { λ x. ⌜ ((i : Bool) → x ≡ encode (messageSet m (decode i r))) ⌝ }
+// SETSPI does nothing to a pending interrupt. Else the latch of an edge interrupt, the message level of another, is set or cleared.
+fn sent(g: Message, r: u8) -> u8
+    ensures { λ x. ⌜ ((s : Shape) (i : Interrupt) (p : Bool) → sgi i ≡ false → x ≡ encode (sent s g i (decode p r))) ⌝ }
 {
-    if is_pending(m, r) {
-        return r;
-    }
-    if edge_of(m, r) {
-        put(Bit::Latch, true, r)
+    let on = sets(g);
+    if on & is_pending(false, r) {
+        r
+    } else if edge_of(false, r) {
+        put(Bit::Latch, on, r)
     } else {
-        put(Bit::MessageLevel, true, r)
-    }
-}
-
-fn clear_pending(m: u32, r: u8) -> u8
-    ensures { λ x. ⌜ ((i : Bool) → x ≡ encode (messageCleared m (decode i r))) ⌝ }
-{
-    if edge_of(m, r) {
-        put(Bit::Latch, false, r)
-    } else {
-        put(Bit::MessageLevel, false, r)
-    }
-}
-
-pub fn send(g: Message, m: u32, r: u8) -> u8
-    ensures { λ x. ⌜ ((i : Bool) → x ≡ encode (sent g m (decode i r))) ⌝ }
-{
-    if is_set(g) {
-        set_pending(m, r)
-    } else {
-        clear_pending(m, r)
+        put(Bit::MessageLevel, on, r)
     }
 }
 
 // The same behind the gate: a missing interrupt, and one that the side may not name, is left.
-pub fn deliver(side: Side, g: Message, implemented: bool, m: u32, r: u8) -> u8
-    ensures { λ x. ⌜ x ≡ encode (delivered side g m (decode implemented r)) ⌝ }
+pub fn deliver(side: Side, g: Message, implemented: bool, r: u8) -> u8
+    ensures { λ x. ⌜ ((s : Shape) (i : Interrupt) → sgi i ≡ false → x ≡ encode (delivered s side g i (decode implemented r))) ⌝ }
 {
     if implemented & may_send(side, g, r) {
-        send(g, m, r)
+        sent(g, r)
     } else {
         r
     }

@@ -1,76 +1,64 @@
--- Digits of a family: one or two bits, how many a word holds, and how large a shown one is.
-use mathlib.Core.Path.{_≡_, refl}
-use mathlib.Core.Bool.{Bool, true, false, cond}
+-- The digits of a word: one bit or two each, where they stand, and how large a shown one is.
+--   by-bits        what holds of one-bit and of two-bit digits holds of a family's
+--   part-small     a part that fits has no more than 32 records,
+--   inside         each has its digit inside the word,
+--   shift-small    and there is where it stands
+--   bits-small, modulus, modulus-pos   1 << bits, in a word of 32 bits, is 2 ^ bits
+--   shown-small    a digit that is shown is below that
+use mathlib.Core.Path.{_≡_, refl, sym, subst}
+use mathlib.Core.List.{List}
 use Prim.Native.Nat.{ℕ, _+_, _*_, _^_, _%_, _≤_, _<_}
 use native.Mathlib.Omega.{arith}
-use Rattle.lists.specs.Word.{digit, bitAt}
+use lib.ListN.{length}
+use Rattle.lists.specs.Word.{bitAt}
 use Rattle.types.specs.declared.Family.{Family}
-use Rattle.types.specs.declared.Family.the-variants.{Igroupr, Isenabler, Icenabler, Ispendr, Icpendr, Isactiver, Icactiver, Igrpmodr, Icfgr}
-use Rattle.types.specs.declared.Side.{Side}
-use Rattle.meaning.specs.Cell.{Cell, decode, edgeOf, pending}
-use Rattle.meaning.specs.Registers.{digitBits}
-use Rattle.meaning.specs.Rule.{shows, reaches, visible}
-use Rattle.meaning.proofs.Bytes.{digit-small}
+use Rattle.types.specs.declared.Shape.{Shape}
+use Rattle.meaning.specs.Interrupt.{Interrupt}
+use Rattle.meaning.specs.Cell.{decode}
+use Rattle.meaning.specs.Registers.{kindOf, bitsOf}
+use Rattle.meaning.proofs.Digits.{by-room}
+use Rattle.meaning.proofs.Listed.{columns, visible-small}
 use Rattle.words.specs.declared.Word.{Word}
-use Rattle.words.specs.Part.{shownAt}
+use Rattle.words.specs.Part.{Fitting, Inside, shownAt}
 
--- what holds of one-bit and of two-bit digits holds of a family's
-pub by-bits : (P : ℕ → Type 0) → P 1 → P 2 → (f : Family) → P (digitBits f)
-by-bits P one two Igroupr = one
-by-bits P one two Isenabler = one
-by-bits P one two Icenabler = one
-by-bits P one two Ispendr = one
-by-bits P one two Icpendr = one
-by-bits P one two Isactiver = one
-by-bits P one two Icactiver = one
-by-bits P one two Igrpmodr = one
-by-bits P one two Icfgr = two
+pub by-bits : (P : ℕ → Type 0) → P 1 → P 2 → (f : Family) → P (bitsOf f)
+by-bits P one two f = subst P (sym (columns f .digit-bits)) (by-room P one two (kindOf f))
 
--- record x of a part that fits has its digit within the word
-pub in-word : (f : Family) (n x : ℕ) → n * digitBits f ≤ 32 → x < n → digitBits f + digitBits f * x ≤ 32
-in-word f n x =
-    by-bits (λ b. n * b ≤ 32 → x < n → b + b * x ≤ 32) (λ h l. let u : n * 1 ≤ 32 = h in omega arith) (λ h l. let u : n * 2 ≤ 32 = h in omega arith) f
+module _ (w : Word) (part : List ℕ) (fit : Fitting w part) where
+  abbrev n : ℕ
+  n = length part
 
-pub shift-small : (f : Family) (n x : ℕ) → n * digitBits f ≤ 32 → x < n → digitBits f * x < 32
-shift-small f n x =
-    by-bits (λ b. n * b ≤ 32 → x < n → b * x < 32) (λ h l. let u : n * 1 ≤ 32 = h in omega arith) (λ h l. let u : n * 2 ≤ 32 = h in omega arith) f
+  pub part-small : n ≤ 32
+  part-small =
+      by-bits (λ b. n * b ≤ 32 → n ≤ 32) (λ h. let u : n * 1 ≤ 32 = h in omega arith) (λ h. let u : n * 2 ≤ 32 = h in omega arith)
+      (w .family) (fit .digits)
 
-pub place-small : (f : Family) (n x : ℕ) → n * digitBits f ≤ 32 → x < n → x < 32
-place-small f n x =
-    by-bits (λ b. n * b ≤ 32 → x < n → x < 32) (λ h l. let u : n * 1 ≤ 32 = h in omega arith) (λ h l. let u : n * 2 ≤ 32 = h in omega arith) f
+  pub inside : (x : ℕ) → x < n → Inside w x
+  inside x l =
+      let m = part-small in
+      let k = fit .numbers in
+      record {
+        digit =
+            by-bits (λ b. n * b ≤ 32 → b + b * x ≤ 32) (λ h. let u : n * 1 ≤ 32 = h in omega arith)
+            (λ h. let u : n * 2 ≤ 32 = h in omega arith) (w .family) (fit .digits);
+        place = omega arith;
+        number = omega arith;
+      }
 
-pub digit-fits : (f : Family) (x : ℕ) → digitBits f * x < 32 → x < 32
-digit-fits f x = by-bits (λ b. b * x < 32 → x < 32) (λ h. let u : 1 * x < 32 = h in omega arith) (λ h. let u : 2 * x < 32 = h in omega arith) f
+pub shift-small : (w : Word) (x : ℕ) → Inside w x → bitsOf (w .family) * x < 32
+shift-small w x i =
+    by-bits (λ b. b + b * x ≤ 32 → b * x < 32) (λ h. let u : 1 + 1 * x ≤ 32 = h in omega arith)
+    (λ h. let u : 2 + 2 * x ≤ 32 = h in omega arith) (w .family) (i .digit)
 
-pub bits-small : (f : Family) → digitBits f < 32
+pub bits-small : (f : Family) → bitsOf f < 32
 bits-small f = by-bits (λ b. b < 32) (omega arith) (omega arith) f
 
-pub modulus : (f : Family) → (1 * 2 ^ digitBits f) % 2 ^ 32 ≡ 2 ^ digitBits f
+pub modulus : (f : Family) → (1 * 2 ^ bitsOf f) % 2 ^ 32 ≡ 2 ^ bitsOf f
 modulus f = by-bits (λ b. (1 * 2 ^ b) % 2 ^ 32 ≡ 2 ^ b) refl refl f
 
-pub modulus-pos : (f : Family) → 1 ≤ 2 ^ digitBits f
+pub modulus-pos : (f : Family) → 1 ≤ 2 ^ bitsOf f
 modulus-pos f = by-bits (λ b. 1 ≤ 2 ^ b) (omega arith) (omega arith) f
 
-shows-small : (f : Family) (m : ℕ) (c : Cell) → shows f m c < 2 ^ digitBits f
-unfolding shows
-shows-small Igroupr m c = let h = digit-small (c .group) in omega arith
-shows-small Isenabler m c = let h = digit-small (c .enabled) in omega arith
-shows-small Icenabler m c = let h = digit-small (c .enabled) in omega arith
-shows-small Ispendr m c = let h = digit-small (pending m c) in omega arith
-shows-small Icpendr m c = let h = digit-small (pending m c) in omega arith
-shows-small Isactiver m c = let h = digit-small (c .active) in omega arith
-shows-small Icactiver m c = let h = digit-small (c .active) in omega arith
-shows-small Igrpmodr m c = let h = digit-small (c .modifier) in omega arith
-shows-small Icfgr m c = let h = digit-small (edgeOf m c) in omega arith
-
-pub visible-small : (side : Side) (f : Family) (m : ℕ) (c : Cell) → visible side f m c < 2 ^ digitBits f
-unfolding visible
-visible-small side f m c = by (reaches side f c)
-  where
-    by : (b : Bool) → cond b (shows f m c) 0 < 2 ^ digitBits f
-    by true = shows-small f m c
-    by false = by-bits (λ b. 0 < 2 ^ b) (omega arith) (omega arith) f
-
-pub shown-small : (w : Word) (x byte : ℕ) → shownAt w x byte < 2 ^ digitBits (w .family)
+pub shown-small : (s : Shape) (at : ℕ → Interrupt) (w : Word) (x byte : ℕ) → shownAt s at w x byte < 2 ^ bitsOf (w .family)
 unfolding shownAt
-shown-small w x byte = visible-small (w .side) (w .family) (w .first + x) (decode (bitAt (w .implemented) x) byte)
+shown-small s at w x byte = visible-small s (w .side) (w .family) (at x) (decode (bitAt (w .implemented) x) byte)

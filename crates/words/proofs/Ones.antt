@@ -1,64 +1,58 @@
 -- What a set or clear family makes of the digits of a written word: they are its bits, a 0 leaves the record, a 1 is the digit 1.
---   part-small    a part that fits has no more than 32 records
 --   quiet-at      record x where bit x is 0
 --   one-at        record x where bit x is 1
 use mathlib.Core.Path.{_≡_, refl, sym, ap, _∙_}
-use mathlib.Core.Bool.{true, false}
-use Prim.Native.Nat.{ℕ, _+_, _*_, _≤_, _<_}
+use mathlib.Core.Bool.{Bool, true, false}
+use Prim.Native.Nat.{ℕ, _*_}
 use native.Mathlib.Omega.{arith}
 use borrow.Author.Tests.{eqb-true}
 use lib.Dec.{eqb}
 use Rattle.lists.specs.Word.{bitAt, digitAt}
-use Rattle.lists.proofs.Bools.{clash}
-use Rattle.types.specs.declared.Family.{Family}
-use Rattle.types.specs.declared.Family.the-variants.{Igroupr, Isenabler, Icenabler, Ispendr, Icpendr, Isactiver, Icactiver, Igrpmodr, Icfgr}
+use Rattle.types.specs.declared.Shape.{Shape}
+use Rattle.types.specs.declared.Switch.{Switch}
+use Rattle.types.specs.declared.Kind.{Kind}
+use Rattle.types.specs.declared.Kind.the-variants.{Switched}
+use Rattle.types.specs.declared.Way.the-variants.{Write}
+use Rattle.meaning.specs.Interrupt.{Interrupt}
 use Rattle.meaning.specs.Cell.{Cell, decode, encode}
-use Rattle.meaning.specs.Registers.{digitBits}
-use Rattle.meaning.specs.Rule.{setOrClear, reaches, update, touched}
+use Rattle.meaning.specs.Registers.{kindOf, bitsOf}
+use Rattle.meaning.specs.Rule.{reaches}
 use Rattle.meaning.proofs.Bytes.{encode-decode}
-use Rattle.meaning.proofs.Cells.{gated-both}
-use Rattle.meaning.proofs.Quiet.{zero-quiet}
+use Rattle.meaning.proofs.Choices.{cond-keeps}
+use Rattle.meaning.proofs.Aims.{zero-quiet}
+use Rattle.writes.specs.Touched.{touched}
 use Rattle.words.specs.declared.Word.{Word}
-use Rattle.words.specs.Part.{storedAt}
-use Rattle.words.proofs.Digits.{by-bits}
+use Rattle.words.specs.Part.{digitStored, storedAt}
+use Rattle.meaning.proofs.Digits.{room}
+use Rattle.meaning.proofs.Listed.{columns}
 
-pub part-small : (f : Family) (n : ℕ) → n * digitBits f ≤ 32 → n ≤ 32
-part-small f n =
-    by-bits (λ b. n * b ≤ 32 → n ≤ 32) (λ h. let u : n * 1 ≤ 32 = h in omega arith) (λ h. let u : n * 2 ≤ 32 = h in omega arith) f
+module _ (s : Shape) (at : ℕ → Interrupt) (w : Word) (on : Bool) (b : Switch) (k : kindOf (w .family) ≡ Switched on b) (v x byte : ℕ) where
+  abbrev d : ℕ
+  d = digitAt (bitsOf (w .family)) x v
 
-one-bit : (f : Family) → setOrClear f ≡ true → digitBits f ≡ 1
-one-bit Igroupr h = refl
-one-bit Isenabler h = refl
-one-bit Icenabler h = refl
-one-bit Ispendr h = refl
-one-bit Icpendr h = refl
-one-bit Isactiver h = refl
-one-bit Icactiver h = refl
-one-bit Igrpmodr h = refl
-one-bit Icfgr h = absurd (clash h refl)
+  one-bit : bitsOf (w .family) ≡ 1
+  one-bit = columns (w .family) .digit-bits ∙ ap room k
 
--- digit x is 1 exactly where bit x is
-digit-bit : (f : Family) (x v : ℕ) → setOrClear f ≡ true → eqb (digitAt (digitBits f) x v) 1 ≡ bitAt v x
-unfolding digitAt bitAt
-digit-bit f x v h = rw (one-bit f h) (let u : 1 * x ≡ x = omega arith in rw u refl)
+  -- digit x is 1 exactly where bit x is
+  digit-bit : eqb d 1 ≡ bitAt v x
+  unfolding digitAt bitAt
+  digit-bit = rw one-bit (let u : 1 * x ≡ x = omega arith in rw u refl)
 
-pub quiet-at : (w : Word) (v x byte : ℕ) → setOrClear (w .family) ≡ true → bitAt v x ≡ false → byte < 256 → storedAt w v x byte ≡ byte
-unfolding storedAt touched
-quiet-at w v x byte h z fits =
-    ap encode
-    (gated-both (λ c. c) (reaches (w .side) (w .family) cell) (update (w .family) d (w .first + x) cell) cell
-    (zero-quiet (w .family) d (w .first + x) cell h (digit-bit (w .family) x v h ∙ z)) refl)
-    ∙ encode-decode (bitAt (w .implemented) x) byte fits
-  where
-    cell : Cell
-    cell = decode (bitAt (w .implemented) x) byte
+  switched-at : storedAt s at w v x byte ≡ digitStored s at w (Switched on b) d x byte
+  unfolding storedAt
+  switched-at = ap (λ (z : Kind). digitStored s at w z d x byte) k
 
-    d : ℕ
-    d = digitAt (digitBits (w .family)) x v
+  pub quiet-at : bitAt v x ≡ false → storedAt s at w v x byte ≡ byte
+  unfolding touched
+  quiet-at z =
+      switched-at
+      ∙ (ap encode (cond-keeps (λ (c : Cell). c) (reaches s (w .side) Write (Switched on b) (at x) cell) _ cell
+      (λ t. zero-quiet s (w .side) on b d (at x) cell (digit-bit ∙ z)))
+      ∙ encode-decode (bitAt (w .implemented) x) byte)
+    where
+      cell : Cell
+      cell = decode (bitAt (w .implemented) x) byte
 
-pub one-at : (w : Word) (v x byte : ℕ) → setOrClear (w .family) ≡ true → bitAt v x ≡ true
-    → encode (touched (w .side) (w .family) 1 (w .first + x) (decode (bitAt (w .implemented) x) byte)) ≡ storedAt w v x byte
-unfolding storedAt
-one-at w v x byte h o =
-    ap (λ (d : ℕ). encode (touched (w .side) (w .family) d (w .first + x) (decode (bitAt (w .implemented) x) byte)))
-    (sym (eqb-true (digitAt (digitBits (w .family)) x v) 1 (digit-bit (w .family) x v h ∙ o)))
+  pub one-at : (r : ℕ) → bitAt v x ≡ true → r ≡ digitStored s at w (Switched on b) 1 x byte → r ≡ storedAt s at w v x byte
+  one-at r o e =
+      e ∙ sym (switched-at ∙ ap (λ (n : ℕ). digitStored s at w (Switched on b) n x byte) (eqb-true d 1 (digit-bit ∙ o)))

@@ -1,77 +1,69 @@
-// What a register write does to a record. `d` is the digit written for it.
+// What a register write does to a record. `d` is the digit written for it; `soft`: the interrupt is an SGI.
 ghost use mathlib.Core.Path.{_≡_};
 ghost use mathlib.Core.Bool.{Bool};
+ghost use Rattle.types.specs.declared.Shape.{Shape};
+ghost use Rattle.meaning.specs.Interrupt.{Interrupt, sgi};
 ghost use Rattle.meaning.specs.Cell.{decode, encode};
-ghost use Rattle.meaning.specs.Rule.{setting, clearing, retriggered, configured, update, touched};
+ghost use Rattle.meaning.specs.Rule.{bitOf, switched, configured, update};
+ghost use Rattle.writes.specs.Touched.{touched};
 use bits::has;
 use bits::put;
+use record::guarded;
 use record::may_touch;
 use types::Bit;
-use types::Family;
+use types::Kind;
 use types::Side;
+use types::Switch;
 
-// A written 1 sets the bit.
-fn set(b: Bit, d: u32, r: u8) -> u8
-    ensures { λ x. ⌜ ((i : Bool) → x ≡ encode (setting b d (decode i r))) ⌝ }
+fn bit_of(switch: Switch) -> Bit
+    ensures { λ b. ⌜ b ≡ bitOf switch ⌝ }
 {
-    if d == 1 { put(b, true, r) } else { r }
+    match switch {
+        Switch::Enable => Bit::Enabled,
+        Switch::Pending => Bit::Latch,
+        Switch::Active => Bit::Active,
+    }
 }
 
-// A written 1 clears the bit.
-fn clear(b: Bit, d: u32, r: u8) -> u8
-    ensures { λ x. ⌜ ((i : Bool) → x ≡ encode (clearing b d (decode i r))) ⌝ }
+// A written 1 sets the bit (on), or clears it; a 0 does nothing.
+fn switched(on: bool, bit: Bit, d: u32, r: u8) -> u8
+    ensures { λ x. ⌜ ((p : Bool) → x ≡ encode (switched on bit d (decode p r))) ⌝ }
 {
-    if d == 1 { put(b, false, r) } else { r }
+    if d == 1 { put(bit, on, r) } else { r }
 }
 
-// A change of trigger also clears latch and message level.
-fn retrigger(edge: bool, r: u8) -> u8
-    ensures { λ x. ⌜ ((i : Bool) → x ≡ encode (retriggered edge (decode i r))) ⌝ }
+// An ICFGR field: those of SGIs and of enabled interrupts ignore writes. A change of trigger also clears latch and message level.
+fn configured(d: u32, soft: bool, r: u8) -> u8
+    ensures { λ x. ⌜ ((i : Interrupt) (p : Bool) → sgi i ≡ soft → x ≡ encode (configured d i (decode p r))) ⌝ }
 {
-    if edge == has(Bit::Edge, r) {
+    if (soft | has(Bit::Enabled, r)) | ((2 <= d) == has(Bit::Edge, r)) {
         r
     } else {
         put(
             Bit::Edge,
-            edge,
+            2 <= d,
             put(Bit::Latch, false, put(Bit::MessageLevel, false, r)),
         )
     }
 }
 
-// An ICFGR field: those of SGIs and of enabled interrupts ignore writes.
-fn configure(d: u32, m: u32, r: u8) -> u8
-    ensures { λ x. ⌜ ((i : Bool) → x ≡ encode (configured d m (decode i r))) ⌝ }
+fn updated(kind: Kind, d: u32, soft: bool, r: u8) -> u8
+    ensures { λ x. ⌜ ((s : Shape) (side : Side) (i : Interrupt) (p : Bool) → sgi i ≡ soft
+        → x ≡ encode (update s side kind d i (decode p r))) ⌝ }
 {
-    if (m < 16) | has(Bit::Enabled, r) {
-        r
-    } else {
-        retrigger(2 <= d, r)
-    }
-}
-
-pub fn updated(family: Family, d: u32, m: u32, r: u8) -> u8
-    ensures { λ x. ⌜ ((i : Bool) → x ≡ encode (update family d m (decode i r))) ⌝ }
-{
-    match family {
-        Family::Igroupr => put(Bit::Group, d == 1, r),
-        Family::Isenabler => set(Bit::Enabled, d, r),
-        Family::Icenabler => clear(Bit::Enabled, d, r),
-        Family::Ispendr => set(Bit::Latch, d, r),
-        Family::Icpendr => clear(Bit::Latch, d, r),
-        Family::Isactiver => set(Bit::Active, d, r),
-        Family::Icactiver => clear(Bit::Active, d, r),
-        Family::Igrpmodr => put(Bit::Modifier, d == 1, r),
-        Family::Icfgr => configure(d, m, r),
+    match kind {
+        Kind::Switched(on, switch) => switched(on, bit_of(switch), d, r),
+        Kind::Guarded(guard) => put(guarded(guard), d == 1, r),
+        Kind::Trigger => configured(d, soft, r),
     }
 }
 
 // The same behind the gate: a missing interrupt, and one that the side may not touch, is left.
-pub fn touched(side: Side, family: Family, implemented: bool, d: u32, m: u32, r: u8) -> u8
-    ensures { λ x. ⌜ x ≡ encode (touched side family d m (decode implemented r)) ⌝ }
+pub fn touched(side: Side, kind: Kind, implemented: bool, d: u32, soft: bool, r: u8) -> u8
+    ensures { λ x. ⌜ ((s : Shape) (i : Interrupt) → sgi i ≡ soft → x ≡ encode (touched s side kind d i (decode implemented r))) ⌝ }
 {
-    if implemented & may_touch(side, family, r) {
-        updated(family, d, m, r)
+    if implemented & may_touch(side, kind, r) {
+        updated(kind, d, soft, r)
     } else {
         r
     }

@@ -1,24 +1,22 @@
-use mathlib.Core.Path.{sym}
+-- `messages::deliver` is `delivered`. Two ways out: the gate open (returns), and shut, where the record is left (returns-2).
 use Rattle.meaning.specs.Cell.{decode}
-use Rattle.meaning.specs.Rule.{delivered}
 use Rattle.meaning.proofs.Bytes.{encode-decode}
+use Rattle.messages.specs.Delivered.{delivered}
 use borrow.Author.Needs.{needs}
 use Rattle.messages.proofs.deliver.Statement.{statement}
 use Rattle.messages.proofs.deliver.Tie as tie
 
-may-send-requires : tie.Need-may-send-requires
-may-send-requires c κs = search needs
-
-send-requires : tie.Need-send-requires
-send-requires c κs = search needs
-
 returns : tie.Need-returns
 unfolding delivered decode
-returns c = rw (← (c .before .before .may-send .ensures (c .before .before .before .args .implemented)), c .before .if1 .taken) (c .send .ensures (c .before .before .before .args .implemented))
+returns c s i h =
+    let a = c .before .before .before .args in
+    rw (← (c .before .before .may-send .ensures i (a .implemented)), c .before .if1 .taken) (c .sent .ensures s i (a .implemented) h)
 
 returns-2 : tie.Need-returns-2
 unfolding delivered decode
-returns-2 c = rw (← (c .before .may-send .ensures (c .before .before .args .implemented)), c .if1 .left) (sym (encode-decode (c .before .before .args .implemented) (c .before .before .args .r) (c .before .before .fits .r .fits)))
+returns-2 c s i h =
+    let a = c .before .before .args in
+    rw (← (c .before .may-send .ensures i (a .implemented)), c .if1 .left, encode-decode (a .implemented) (a .r))
 
 pub deliver-spec : {M : Type 1} → statement M
-deliver-spec = tie.close (tie.spec may-send-requires send-requires returns returns-2)
+deliver-spec = tie.close (tie.spec (search needs) (search needs) returns returns-2)

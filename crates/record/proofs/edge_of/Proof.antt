@@ -1,14 +1,12 @@
-use Rattle.meaning.specs.Cell.{get, edgeOf, sgi}
+-- `record::edge_of` is `edgeOf`. One way out, after the one call.
+use Rattle.meaning.specs.Cell.{get, edgeOf}
 use borrow.Author.Needs.{needs}
 use Rattle.record.proofs.edge_of.Statement.{statement}
 use Rattle.record.proofs.edge_of.Tie as tie
 
-has-requires : tie.Need-has-requires
-has-requires c κs = search needs
-
 returns : tie.Need-returns
-unfolding edgeOf sgi get
-returns c i = rw (c .has .ensures i)
+unfolding edgeOf get
+returns c i p h = rw (h, c .has .ensures p)
 
 pub edge-of-spec : {M : Type 1} → statement M
-edge-of-spec = tie.close (tie.spec has-requires returns)
+edge-of-spec = tie.close (tie.spec (search needs) returns)

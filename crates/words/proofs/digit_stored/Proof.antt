@@ -1,21 +1,12 @@
--- `words::digit_stored` is `writes::touched` at record x. One way out. Assumes nothing.
+-- `words::digit_stored` is `writes::touched` at record x. One way out.
 use Rattle.lists.specs.Word.{bitAt}
 use borrow.Author.Needs.{needs}
 use Rattle.words.proofs.digit_stored.Statement.{statement}
 use Rattle.words.proofs.digit_stored.Tie as tie
 
-shr-touched : tie.Need-shr-touched
-shr-touched c = search needs
-
-add-touched : tie.Need-add-touched
-add-touched c = search needs
-
-touched-requires : tie.Need-touched-requires
-touched-requires c κs = search needs
-
 returns : tie.Need-returns
 unfolding bitAt
-returns c = c .touched .ensures
+returns c s at n = c .touched .ensures s _ n
 
 pub digit-stored-spec : {M : Type 1} → statement M
-digit-stored-spec = tie.close (tie.spec shr-touched add-touched touched-requires returns)
+digit-stored-spec = tie.close (tie.spec (search needs) (search needs) (search needs) returns)

@@ -1,96 +1,82 @@
 -- `words::jump` leaves `stored`: each turn visits the record of the lowest 1 that is left, and every record whose bit is 0 is as `stored`
 -- has it from the start. The measure is what is left of the value. One way out, where no 1 is left below the part's end: because none is
--- left at all, or because the next lies past the end. Assumes nothing.
+-- left at all, or because the next lies past the end.
 use borrow.Author.Needs.{needs}
 use denote.Ref.{now}
 use mathlib.Core.Path.{_≡_, refl, ap, _∙_}
 use mathlib.Core.Bool.{true}
 use mathlib.Core.List.{List}
-use Prim.Native.Nat.{ℕ, _≤_, _<_}
+use Prim.Native.Nat.{ℕ, _<_}
 use native.Mathlib.Omega.{arith}
 use lib.Count.{trailingZeros, trailing-le}
-use lib.ListN.{length, getD}
+use lib.ListN.{length, getD, length-set}
 use Rattle.lists.specs.Word.{bitAt}
 use Rattle.lists.proofs.Ones.{below-count, at-count, without-less}
 use Rattle.lists.proofs.Jumps.{Jumped, jumped-none, jumped-more, jumped-all}
+use Rattle.types.specs.declared.Shape.{Shape}
+use Rattle.meaning.specs.Interrupt.{Interrupt}
 use Rattle.words.specs.declared.Word.{Word}
-use Rattle.words.specs.Part.{storedAt, stored}
-use Rattle.words.proofs.Ones.{part-small, quiet-at, one-at}
+use Rattle.words.specs.Part.{Inside, Numbered, storedAt, stored}
+use Rattle.words.proofs.Digits.{part-small, inside}
+use Rattle.words.proofs.Ones.{quiet-at, one-at}
 use Rattle.words.proofs.jump.Statement.{statement}
 use Rattle.words.proofs.jump.Tie as tie
 
 -- x is the place of the lowest 1 of what is left, and 32 where nothing is left
 record Jumping (old : List ℕ) (word : Word) (value : ℕ) (new : List ℕ) (rest x : ℕ) : Type 0 where
   next : x ≡ trailingZeros 32 rest
-  jumped : Jumped (storedAt word value) old new value rest
+  same : length new ≡ length old
+  jumped : (s : Shape) (at : ℕ → Interrupt) → Numbered (length old) (word .first) at → Jumped (storedAt s at word value) old new value rest
 
 abbrev Inv-loop : tie.InvT-loop
-Inv-loop part₀ word value rest₀ x₀ part rest x = Jumping part₀ word value part rest x
+Inv-loop part₀ word on switch value rest₀ x₀ part rest x = Jumping part₀ word value part rest x
 
 abbrev μ-loop : tie.MeasureT-loop
-μ-loop part₀ word value rest₀ x₀ part rest x = rest
+μ-loop part₀ word on switch value rest₀ x₀ part rest x = rest
 
 -- the entry, from the loop's test
 abbrev entry : tie.At-loop Inv-loop μ-loop → tie.Start Inv-loop μ-loop
 entry l = l .before .before
-
-abbrev Part : tie.Start Inv-loop μ-loop → List ℕ
-Part e = now (e .args .part)
-
-small : (e : tie.Start Inv-loop μ-loop) → length (Part e) ≤ 32
-small e = part-small (e .args .word .family) (length (Part e)) (e .pre .0 .digits)
 
 -- inside the loop: x is a place of the part, and its bit is 1
 module _ (c : tie.In-loop Inv-loop μ-loop) where
   abbrev l : tie.At-loop Inv-loop μ-loop
   l = c .before
 
-  inside : l .loop .x < length (Part (entry l))
-  inside = let s = l .loop .inv .jumped .same in let t = c .loop-test .taken in omega arith
+  below : l .loop .x < length (now (entry l .args .part))
+  below = let s = l .loop .inv .same in let t = c .loop-test .taken in omega arith
 
-  low : l .loop .x < 32
-  low = let h = inside in let s = small (entry l) in omega arith
+  here : Inside (entry l .args .word) (l .loop .x)
+  here = inside (entry l .args .word) (now (entry l .args .part)) (entry l .pre .0) (l .loop .x) below
 
   one : bitAt (l .loop .rest) (l .loop .x) ≡ true
   one =
       let e = l .loop .inv .next in
-      let h = low in
+      let h = here .place in
       ap (λ (k : ℕ). bitAt (l .loop .rest) k) e ∙ at-count 32 (l .loop .rest) (omega arith)
-
-  -- and it is one that was written
-  asked : bitAt (entry l .args .value) (l .loop .x) ≡ true
-  asked = l .loop .inv .jumped .ones (l .loop .x) inside one
 
 loop-holds : tie.Need-loop-holds Inv-loop μ-loop
 loop-holds c =
     let a = c .before .args in
     record {
       next = refl;
-      jumped =
-          jumped-none (storedAt (a .word) (a .value)) (now (a .part)) (a .value)
-          (λ k h z. quiet-at (a .word) (a .value) k _ (c .before .pre .1) z (c .slice-known .given k .fits));
+      same = refl;
+      jumped = λ s at n.
+          jumped-none (storedAt s at (a .word) (a .value)) (now (a .part)) (a .value)
+          (λ k h z. quiet-at s at (a .word) (a .on) (a .switch) (c .before .pre .1) (a .value) k _ z);
     }
 
 cast-loop : tie.Need-cast-loop Inv-loop μ-loop
 cast-loop c = let e = c .loop .inv .next in let h = trailing-le 32 (c .loop .rest) in record { fits = omega arith }
 
-cast-at : tie.Need-cast-at Inv-loop μ-loop
-cast-at c = search needs
-
-slice-read-digit-stored : tie.Need-slice-read-digit-stored Inv-loop μ-loop
-slice-read-digit-stored c = search needs
-
 digit-stored-requires : tie.Need-digit-stored-requires Inv-loop μ-loop
-digit-stored-requires c κs = (low (c .before), entry (c .before .before) .pre .0 .numbers)
-
-slice-write-part : tie.Need-slice-write-part Inv-loop μ-loop
-slice-write-part c = search needs
+digit-stored-requires c κs = here (c .before)
 
 shl-rest : tie.Need-shl-rest Inv-loop μ-loop
-shl-rest c = low (c .before .before)
+shl-rest c = here (c .before .before) .place
 
 loop-less : tie.Need-loop-less Inv-loop μ-loop
-loop-less c = let t = c .before .before in without-less (t .before .loop .rest) (t .before .loop .x) (low t) (one t)
+loop-less c = let t = c .before .before in without-less (t .before .loop .rest) (t .before .loop .x) (here t .place) (one t)
 
 loop-again : tie.Need-loop-again Inv-loop μ-loop
 loop-again c =
@@ -100,37 +86,31 @@ loop-again c =
     let a = e .args in
     record {
       next = refl;
-      jumped =
-          jumped-more (storedAt (a .word) (a .value)) (Part e) (l .part) (a .value) (l .rest) (l .x) (c .digit-stored .result)
-          (l .inv .jumped) (small e) (t .loop-test .taken) (one t)
-          (c .digit-stored .ensures ∙ one-at (a .word) (a .value) (l .x) (getD (l .part) (l .x) 0) (e .pre .1) (asked t));
+      same = length-set (l .part) (l .x) (c .digit-stored .result) ∙ l .inv .same;
+      jumped = λ s at n.
+          let j = l .inv .jumped s at n in
+          jumped-more (storedAt s at (a .word) (a .value)) (now (a .part)) (l .part) (a .value) (l .rest) (l .x) (c .digit-stored .result)
+          j (part-small (a .word) (now (a .part)) (e .pre .0)) (t .loop-test .taken) (one t)
+          (one-at s at (a .word) (a .on) (a .switch) (e .pre .1) (a .value) (l .x) (getD (l .part) (l .x) 0) (c .digit-stored .result)
+          (j .ones (l .x) (below t) (one t)) (c .digit-stored .ensures s at (n (l .x) (below t))));
     }
 
 same-length : tie.Need-same-length Inv-loop μ-loop
-same-length c = c .before .loop .inv .jumped .same
+same-length c = c .before .loop .inv .same
 
 returns : tie.Need-returns Inv-loop μ-loop
 unfolding stored
-returns c =
+returns c s at n =
     let l = c .before .loop in
-    let e = entry (c .before) in
-    jumped-all (storedAt (e .args .word) (e .args .value)) (Part e) (l .part) (e .args .value) (l .rest) (l .inv .jumped)
-    (λ k h. below-count 32 (l .rest) k (let n = l .inv .next in let s = l .inv .jumped .same in let t = c .loop-test .left in omega arith))
+    let a = entry (c .before) .args in
+    let same = l .inv .same in
+    let next = l .inv .next in
+    let t = c .loop-test .left in
+    jumped-all (storedAt s at (a .word) (a .value)) (now (a .part)) (l .part) (a .value) (l .rest) (l .inv .jumped s at n)
+    (λ k h. below-count 32 (l .rest) k (omega arith))
 
 pub jump-spec : {M : Type 1} → statement M
 jump-spec =
     tie.close
-    (tie.spec
-    Inv-loop
-    μ-loop
-    loop-holds
-    cast-loop
-    cast-at
-    slice-read-digit-stored
-    digit-stored-requires
-    slice-write-part
-    shl-rest
-    loop-less
-    loop-again
-    same-length
-    returns)
+    (tie.spec Inv-loop μ-loop loop-holds cast-loop (search needs) (search needs) digit-stored-requires (search needs) shl-rest
+    loop-less loop-again same-length returns)

@@ -1,39 +1,19 @@
--- `words::store` leaves `stored`. Two ways out: by `jump`, where a written 0 does nothing (returns), and by `walk`, where it acts
--- (returns-2). Assumes nothing.
-use mathlib.Core.Path.{sym, _∙_}
+-- `words::store` leaves `stored`. Three ways out: by `jump`, where a written 0 does nothing, and by `walk`, where it acts: a group or
+-- modifier word, and a trigger word.
+use mathlib.Core.Path.{sym, ap, _∙_}
+use Rattle.types.specs.declared.Row.{Row}
 use borrow.Author.Needs.{needs}
 use Rattle.words.proofs.store.Statement.{statement}
 use Rattle.words.proofs.store.Tie as tie
 
-set-or-clear-requires : tie.Need-set-or-clear-requires
-set-or-clear-requires c κs = search needs
-
 jump-requires : tie.Need-jump-requires
-jump-requires c κs = (c .before .before .before .before .pre, sym (c .before .before .set-or-clear .ensures) ∙ c .before .if1 .taken)
-
-walk-requires : tie.Need-walk-requires
-walk-requires c κs = search needs
-
-same-length : tie.Need-same-length
-same-length c = search needs
-
-returns : tie.Need-returns
-returns c = search needs
-
-same-length-2 : tie.Need-same-length-2
-same-length-2 c = search needs
-
-returns-2 : tie.Need-returns-2
-returns-2 c = search needs
+jump-requires c κs =
+    let k = c .before .before in
+    let row = k .before .before in
+    (row .before .before .pre, ap (λ (r : Row). r .kind) (sym (row .row-of .ensures)) ∙ k .kind .given .1)
 
 pub store-spec : {M : Type 1} → statement M
 store-spec =
     tie.close
-    (tie.spec
-    set-or-clear-requires
-    jump-requires
-    walk-requires
-    same-length
-    returns
-    same-length-2
-    returns-2)
+    (tie.spec (search needs) (search needs) jump-requires (search needs) (λ c κs. search needs) (search needs) (λ c κs. search needs)
+    (search needs) (λ c. search needs) (search needs) (λ c. search needs) (search needs) (λ c. search needs))

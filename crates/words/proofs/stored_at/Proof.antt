@@ -1,47 +1,41 @@
--- `words::stored_at` is `storedAt`: digit x of the value, and what writing it leaves. One way out. Assumes nothing.
-use Prim.Native.Nat.{_<_}
+-- `words::stored_at` is `storedAt`: digit x of the value, and what writing it leaves. One way out.
+use Prim.Native.Nat.{_*_, _<_}
+use mathlib.Core.Path.{_≡_}
 use native.Mathlib.Omega.{arith}
 use Rattle.lists.specs.Word.{digitAt}
+use Rattle.types.specs.declared.Family.{Family}
+use Rattle.meaning.specs.Registers.{rowOf, bitsOf}
 use Rattle.words.specs.Part.{storedAt}
-use Rattle.words.proofs.Digits.{digit-fits, bits-small, modulus, modulus-pos}
+use Rattle.words.proofs.Digits.{shift-small, bits-small, modulus, modulus-pos}
 use borrow.Author.Needs.{needs}
 use Rattle.words.proofs.stored_at.Statement.{statement}
 use Rattle.words.proofs.stored_at.Tie as tie
 
--- record x has its digit within the word
-inside : (e : tie.Start) → e .args .x < 32
-inside e = digit-fits (e .args .word .family) (e .args .x) (e .pre .0)
+module _ (e : tie.Start) where
+  abbrev f : Family
+  f = e .args .word .family
 
-digit-bits-requires : tie.Need-digit-bits-requires
-digit-bits-requires c κs = search needs
+  row : e .args .row ≡ rowOf f
+  row = e .pre .1
+
+  shift : bitsOf f * e .args .x < 32
+  shift = shift-small (e .args .word) (e .args .x) (e .pre .0)
 
 mul-d : tie.Need-mul-d
-mul-d c = let h = inside (c .before) in record { fits = rw (c .digit-bits .ensures) (let k = c .before .pre .0 in omega arith) }
+mul-d c = let h = shift (c .before) in record { fits = rw (row (c .before)) (omega arith) }
 
 shr-d : tie.Need-shr-d
-shr-d c = rw (c .digit-bits .ensures) (c .before .pre .0)
+shr-d c = rw (row (c .before)) (shift (c .before))
 
 shl-d : tie.Need-shl-d
-shl-d c = rw (c .digit-bits .ensures) (bits-small (c .before .args .word .family))
+shl-d c = let e = c .before .before in rw (row e) (bits-small (f e))
 
 rem-d : tie.Need-rem-d
-rem-d c = rw (c .digit-bits .ensures, modulus (c .before .args .word .family)) (modulus-pos (c .before .args .word .family))
-
-digit-stored-requires : tie.Need-digit-stored-requires
-digit-stored-requires c κs = (inside (c .before), c .before .pre .1)
+rem-d c = let e = c .before .before in rw (row e, modulus (f e)) (modulus-pos (f e))
 
 returns : tie.Need-returns
 unfolding storedAt digitAt
-returns c = rw (c .digit-stored .ensures, c .before .digit-bits .ensures, modulus (c .before .before .args .word .family))
+returns c s at n = let e = c .before .before .before in rw (row e, modulus (f e)) at (c .digit-stored .ensures s at n)
 
 pub stored-at-spec : {M : Type 1} → statement M
-stored-at-spec =
-    tie.close
-    (tie.spec
-    digit-bits-requires
-    mul-d
-    shr-d
-    shl-d
-    rem-d
-    digit-stored-requires
-    returns)
+stored-at-spec = tie.close (tie.spec mul-d shr-d shl-d rem-d (search needs) returns)

@@ -1,24 +1,25 @@
-use mathlib.Core.Path.{sym}
+-- `writes::touched` is `touched`. Two ways out: the gate open (returns), and shut, where the record is left (returns-2).
+use Rattle.types.specs.declared.Way.the-variants.{Write}
 use Rattle.meaning.specs.Cell.{decode}
-use Rattle.meaning.specs.Rule.{touched, reaches}
+use Rattle.meaning.specs.Rule.{reaches}
 use Rattle.meaning.proofs.Bytes.{encode-decode}
+use Rattle.writes.specs.Touched.{touched}
 use borrow.Author.Needs.{needs}
 use Rattle.writes.proofs.touched.Statement.{statement}
 use Rattle.writes.proofs.touched.Tie as tie
 
-may-touch-requires : tie.Need-may-touch-requires
-may-touch-requires c κs = search needs
-
-updated-requires : tie.Need-updated-requires
-updated-requires c κs = search needs
-
 returns : tie.Need-returns
 unfolding touched reaches decode
-returns c = rw (← (c .before .before .may-touch .ensures (c .before .before .before .args .implemented)), c .before .if1 .taken) (c .updated .ensures (c .before .before .before .args .implemented))
+returns c s i h =
+    let a = c .before .before .before .args in
+    rw (← (c .before .before .may-touch .ensures Write i (a .implemented)), c .before .if1 .taken)
+    (c .updated .ensures s (a .side) i (a .implemented) h)
 
 returns-2 : tie.Need-returns-2
 unfolding touched reaches decode
-returns-2 c = rw (← (c .before .may-touch .ensures (c .before .before .args .implemented)), c .if1 .left) (sym (encode-decode (c .before .before .args .implemented) (c .before .before .args .r) (c .before .before .fits .r .fits)))
+returns-2 c s i h =
+    let a = c .before .before .args in
+    rw (← (c .before .may-touch .ensures Write i (a .implemented)), c .if1 .left, encode-decode (a .implemented) (a .r))
 
 pub touched-spec : {M : Type 1} → statement M
-touched-spec = tie.close (tie.spec may-touch-requires updated-requires returns returns-2)
+touched-spec = tie.close (tie.spec (search needs) (search needs) returns returns-2)
