@@ -5,9 +5,14 @@
 //   REDIST_WORDS   how many words the Redistributor has
 //   DIGIT_BITS     how many bits of a word an interrupt has
 //   PER_WORD       how many interrupts a word has
+//   ROW            all of these, and what the digits are
 ghost use mathlib.Core.Path.{_≡_};
-ghost use Rattle.meaning.specs.Registers.{base, extendedBase, distWords, redistWords, digitBits, perWord};
+ghost use Rattle.meaning.specs.Registers.{rowOf};
 use types::Family;
+use types::Guard;
+use types::Kind;
+use types::Row;
+use types::Switch;
 
 // The group bit of each interrupt.
 pub struct Igroupr;
@@ -24,6 +29,17 @@ impl Igroupr {
     pub const DIGIT_BITS: u32 = 1;
 
     pub const PER_WORD: u32 = 32;
+
+    const ROW: Row = Row {
+        kind: Kind::Guarded(Guard::Group),
+        bits: Self::DIGIT_BITS,
+        per: Self::PER_WORD,
+        base: Self::BASE,
+        words: Self::WORDS,
+        extended: Self::EXTENDED,
+        extras: Self::WORDS,
+        redist: Self::REDIST_WORDS,
+    };
 }
 
 // Sets enables.
@@ -41,6 +57,17 @@ impl Isenabler {
     pub const DIGIT_BITS: u32 = 1;
 
     pub const PER_WORD: u32 = 32;
+
+    const ROW: Row = Row {
+        kind: Kind::Switched(true, Switch::Enable),
+        bits: Self::DIGIT_BITS,
+        per: Self::PER_WORD,
+        base: Self::BASE,
+        words: Self::WORDS,
+        extended: Self::EXTENDED,
+        extras: Self::WORDS,
+        redist: Self::REDIST_WORDS,
+    };
 }
 
 // Clears enables.
@@ -58,6 +85,17 @@ impl Icenabler {
     pub const DIGIT_BITS: u32 = 1;
 
     pub const PER_WORD: u32 = 32;
+
+    const ROW: Row = Row {
+        kind: Kind::Switched(false, Switch::Enable),
+        bits: Self::DIGIT_BITS,
+        per: Self::PER_WORD,
+        base: Self::BASE,
+        words: Self::WORDS,
+        extended: Self::EXTENDED,
+        extras: Self::WORDS,
+        redist: Self::REDIST_WORDS,
+    };
 }
 
 // Sets pending.
@@ -75,6 +113,17 @@ impl Ispendr {
     pub const DIGIT_BITS: u32 = 1;
 
     pub const PER_WORD: u32 = 32;
+
+    const ROW: Row = Row {
+        kind: Kind::Switched(true, Switch::Pending),
+        bits: Self::DIGIT_BITS,
+        per: Self::PER_WORD,
+        base: Self::BASE,
+        words: Self::WORDS,
+        extended: Self::EXTENDED,
+        extras: Self::WORDS,
+        redist: Self::REDIST_WORDS,
+    };
 }
 
 // Clears pending.
@@ -92,6 +141,17 @@ impl Icpendr {
     pub const DIGIT_BITS: u32 = 1;
 
     pub const PER_WORD: u32 = 32;
+
+    const ROW: Row = Row {
+        kind: Kind::Switched(false, Switch::Pending),
+        bits: Self::DIGIT_BITS,
+        per: Self::PER_WORD,
+        base: Self::BASE,
+        words: Self::WORDS,
+        extended: Self::EXTENDED,
+        extras: Self::WORDS,
+        redist: Self::REDIST_WORDS,
+    };
 }
 
 // Sets active.
@@ -109,6 +169,17 @@ impl Isactiver {
     pub const DIGIT_BITS: u32 = 1;
 
     pub const PER_WORD: u32 = 32;
+
+    const ROW: Row = Row {
+        kind: Kind::Switched(true, Switch::Active),
+        bits: Self::DIGIT_BITS,
+        per: Self::PER_WORD,
+        base: Self::BASE,
+        words: Self::WORDS,
+        extended: Self::EXTENDED,
+        extras: Self::WORDS,
+        redist: Self::REDIST_WORDS,
+    };
 }
 
 // Clears active.
@@ -126,6 +197,17 @@ impl Icactiver {
     pub const DIGIT_BITS: u32 = 1;
 
     pub const PER_WORD: u32 = 32;
+
+    const ROW: Row = Row {
+        kind: Kind::Switched(false, Switch::Active),
+        bits: Self::DIGIT_BITS,
+        per: Self::PER_WORD,
+        base: Self::BASE,
+        words: Self::WORDS,
+        extended: Self::EXTENDED,
+        extras: Self::WORDS,
+        redist: Self::REDIST_WORDS,
+    };
 }
 
 // The group modifier bit of each interrupt.
@@ -143,6 +225,17 @@ impl Igrpmodr {
     pub const DIGIT_BITS: u32 = 1;
 
     pub const PER_WORD: u32 = 32;
+
+    const ROW: Row = Row {
+        kind: Kind::Guarded(Guard::Modifier),
+        bits: Self::DIGIT_BITS,
+        per: Self::PER_WORD,
+        base: Self::BASE,
+        words: Self::WORDS,
+        extended: Self::EXTENDED,
+        extras: Self::WORDS,
+        redist: Self::REDIST_WORDS,
+    };
 }
 
 // The trigger of each interrupt, two bits each.
@@ -160,101 +253,32 @@ impl Icfgr {
     pub const DIGIT_BITS: u32 = 2;
 
     pub const PER_WORD: u32 = 16;
+
+    const ROW: Row = Row {
+        kind: Kind::Trigger,
+        bits: Self::DIGIT_BITS,
+        per: Self::PER_WORD,
+        base: Self::BASE,
+        words: Self::WORDS,
+        extended: Self::EXTENDED,
+        extras: Self::WORDS,
+        redist: Self::REDIST_WORDS,
+    };
 }
 
-// These tie the constants to the meaning.
-pub fn base(family: Family) -> u32
-    ensures { λ r. ⌜ r ≡ base family ⌝ }
+// A family's row of document 01's table.
+pub fn row_of(f: Family) -> Row
+    ensures { λ r. ⌜ r ≡ rowOf f ⌝ }
 {
-    match family {
-        Family::Igroupr => Igroupr::BASE,
-        Family::Isenabler => Isenabler::BASE,
-        Family::Icenabler => Icenabler::BASE,
-        Family::Ispendr => Ispendr::BASE,
-        Family::Icpendr => Icpendr::BASE,
-        Family::Isactiver => Isactiver::BASE,
-        Family::Icactiver => Icactiver::BASE,
-        Family::Igrpmodr => Igrpmodr::BASE,
-        Family::Icfgr => Icfgr::BASE,
-    }
-}
-
-pub fn extended_base(family: Family) -> u32
-    ensures { λ r. ⌜ r ≡ extendedBase family ⌝ }
-{
-    match family {
-        Family::Igroupr => Igroupr::EXTENDED,
-        Family::Isenabler => Isenabler::EXTENDED,
-        Family::Icenabler => Icenabler::EXTENDED,
-        Family::Ispendr => Ispendr::EXTENDED,
-        Family::Icpendr => Icpendr::EXTENDED,
-        Family::Isactiver => Isactiver::EXTENDED,
-        Family::Icactiver => Icactiver::EXTENDED,
-        Family::Igrpmodr => Igrpmodr::EXTENDED,
-        Family::Icfgr => Icfgr::EXTENDED,
-    }
-}
-
-pub fn words(family: Family) -> u32
-    ensures { λ r. ⌜ r ≡ distWords family ⌝ }
-{
-    match family {
-        Family::Igroupr => Igroupr::WORDS,
-        Family::Isenabler => Isenabler::WORDS,
-        Family::Icenabler => Icenabler::WORDS,
-        Family::Ispendr => Ispendr::WORDS,
-        Family::Icpendr => Icpendr::WORDS,
-        Family::Isactiver => Isactiver::WORDS,
-        Family::Icactiver => Icactiver::WORDS,
-        Family::Igrpmodr => Igrpmodr::WORDS,
-        Family::Icfgr => Icfgr::WORDS,
-    }
-}
-
-pub fn redist_words(family: Family) -> u32
-    ensures { λ r. ⌜ r ≡ redistWords family ⌝ }
-{
-    match family {
-        Family::Igroupr => Igroupr::REDIST_WORDS,
-        Family::Isenabler => Isenabler::REDIST_WORDS,
-        Family::Icenabler => Icenabler::REDIST_WORDS,
-        Family::Ispendr => Ispendr::REDIST_WORDS,
-        Family::Icpendr => Icpendr::REDIST_WORDS,
-        Family::Isactiver => Isactiver::REDIST_WORDS,
-        Family::Icactiver => Icactiver::REDIST_WORDS,
-        Family::Igrpmodr => Igrpmodr::REDIST_WORDS,
-        Family::Icfgr => Icfgr::REDIST_WORDS,
-    }
-}
-
-pub fn digit_bits(family: Family) -> u32
-    ensures { λ r. ⌜ r ≡ digitBits family ⌝ }
-{
-    match family {
-        Family::Igroupr => Igroupr::DIGIT_BITS,
-        Family::Isenabler => Isenabler::DIGIT_BITS,
-        Family::Icenabler => Icenabler::DIGIT_BITS,
-        Family::Ispendr => Ispendr::DIGIT_BITS,
-        Family::Icpendr => Icpendr::DIGIT_BITS,
-        Family::Isactiver => Isactiver::DIGIT_BITS,
-        Family::Icactiver => Icactiver::DIGIT_BITS,
-        Family::Igrpmodr => Igrpmodr::DIGIT_BITS,
-        Family::Icfgr => Icfgr::DIGIT_BITS,
-    }
-}
-
-pub fn per_word(family: Family) -> u32
-    ensures { λ r. ⌜ r ≡ perWord family ⌝ }
-{
-    match family {
-        Family::Igroupr => Igroupr::PER_WORD,
-        Family::Isenabler => Isenabler::PER_WORD,
-        Family::Icenabler => Icenabler::PER_WORD,
-        Family::Ispendr => Ispendr::PER_WORD,
-        Family::Icpendr => Icpendr::PER_WORD,
-        Family::Isactiver => Isactiver::PER_WORD,
-        Family::Icactiver => Icactiver::PER_WORD,
-        Family::Igrpmodr => Igrpmodr::PER_WORD,
-        Family::Icfgr => Icfgr::PER_WORD,
+    match f {
+        Family::Igroupr => Igroupr::ROW,
+        Family::Isenabler => Isenabler::ROW,
+        Family::Icenabler => Icenabler::ROW,
+        Family::Ispendr => Ispendr::ROW,
+        Family::Icpendr => Icpendr::ROW,
+        Family::Isactiver => Isactiver::ROW,
+        Family::Icactiver => Icactiver::ROW,
+        Family::Igrpmodr => Igrpmodr::ROW,
+        Family::Icfgr => Icfgr::ROW,
     }
 }

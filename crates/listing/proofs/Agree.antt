@@ -1,66 +1,91 @@
--- The map and the meaning agree: at every word of the first 4 KiB by one computation a frame, and beyond it by the ends of the ranges.
-use mathlib.Core.Path.{_≡_, refl, ap, _∙_}
+-- What stands at an offset has the place that the meaning lists there (`agree`).
+--   within   in the first 4 KiB, by one computation a frame over the whole map
+--   beyond   past them, where the Distributor's extended words are all that is listed
+use mathlib.Core.Path.{_≡_, refl, sym, ap, _∙_}
+use mathlib.Core.Bool.{cond}
 use mathlib.Core.List.{List, [], _∷_}
-use Prim.Native.Nat.{ℕ, _+_, _*_, _-_, _≤_, _<_}
+use Prim.Native.Nat.{ℕ, _*_, _-_, _/_, _%_, _≤_, _<_}
 use native.Mathlib.Omega.{arith}
-use lib.Dec.{eqb}
-use borrow.Author.Tests.{ne-eqb}
+use lib.Dec.{eqb, ltb}
+use borrow.Author.Tests.{ne-eqb, lt-ltb, le-ltb, ltb-true, ltb-false, eqb-true}
 use Rattle.lists.proofs.Tables.{tabulate-same}
+use Rattle.types.specs.declared.Frame.{Frame}
 use Rattle.types.specs.declared.Frame.the-variants.{Dist, Redist}
 use Rattle.types.specs.declared.Family.{Family}
-use Rattle.types.specs.declared.Family.the-variants.{Igroupr, Isenabler, Icenabler, Ispendr, Icpendr, Isactiver, Icactiver, Igrpmodr, Icfgr}
-use Rattle.types.specs.declared.Place.{Place}
 use Rattle.types.specs.declared.Place.the-variants as place
 use Rattle.types.specs.declared.Refusal.the-variants as refusal
 use Rattle.types.specs.declared.Decoded.{Decoded}
 use Rattle.types.specs.declared.Decoded.the-variants.{At, Refused}
-use Rattle.meaning.specs.Layout.{between}
-use Rattle.meaning.specs.Registers.{base, extendedBase, distWords, redistWords, redistPlace, families, pick, inColumn, inMessages, messages, listed}
-use Rattle.meaning.proofs.Homes.{between-above}
+use Rattle.meaning.specs.Registers.{rowOf, families, messages, redistPlace, inColumn, inMessages, listed}
+use Rattle.families.proofs.Rows.{all-families, tidy}
 use Rattle.map.specs.Map.{code, codeAt}
-use Rattle.listing.specs.Entry.{entryOf, distPlace, redistRegister, redistWord}
+use Rattle.listing.specs.declared.Entry.{Entry}
+use Rattle.listing.specs.declared.Entry.the-variants as entry
+use Rattle.listing.specs.Entry.{entryOf, extendedFrom, entryAt, wordAt, placeIn}
+use Rattle.meaning.proofs.Choices.{chosen}
+use Rattle.listing.proofs.Columns.{NotIn, column, column-past}
 
-pub dist-agree : (k : ℕ) → k < 1024 → distPlace (entryOf (codeAt k)) (4 * k) ≡ listed Dist (4 * k)
-unfolding distPlace entryOf codeAt code listed inColumn inMessages
-dist-agree k h = tabulate-same (λ j. distPlace (entryOf (codeAt j)) (4 * j)) (λ j. listed Dist (4 * j)) 1024 refl k h
+within : (r : Frame) (k : ℕ) → k < 1024 → placeIn r (entryOf (codeAt k)) (4 * k) ≡ listed r (4 * k)
+unfolding placeIn entryOf codeAt code listed inColumn inMessages rowOf
+within Dist k h = tabulate-same (λ j. placeIn Dist (entryOf (codeAt j)) (4 * j)) (λ j. listed Dist (4 * j)) 1024 refl k h
+within Redist k h = tabulate-same (λ j. placeIn Redist (entryOf (codeAt j)) (4 * j)) (λ j. listed Redist (4 * j)) 1024 refl k h
 
-pub redist-agree : (k : ℕ) → k < 1024 → redistWord (entryOf (codeAt k)) (4 * k) ≡ listed Redist (4 * k)
-unfolding redistWord redistRegister entryOf codeAt code listed inColumn inMessages
-redist-agree k h = tabulate-same (λ j. redistWord (entryOf (codeAt j)) (4 * j)) (λ j. listed Redist (4 * j)) 1024 refl k h
+abbrev unlisted : Decoded
+unlisted = Refused refusal.Unlisted
 
--- a column that ends within the first 4 KiB has nothing beyond them
-column-beyond : (from words : Family → ℕ) (at : Family → ℕ → Place) (o : ℕ) (other : Decoded) → 4096 ≤ o
-    → ((f : Family) → from f + 4 * words f ≤ 4096) → (fs : List Family) → inColumn from words at o other fs ≡ other
-unfolding inColumn
-column-beyond from words at o other h ends [] = refl
-column-beyond from words at o other h ends (f ∷ fs) =
-    let e = ends f in
-    rw (between-above (from f) (from f + 4 * words f) o (omega arith) (omega arith)) (column-beyond from words at o other h ends fs)
+-- the column of the extended words
+abbrev ext : Family → ℕ
+ext f = (rowOf f) .extended
 
-dist-ends : (f : Family) → base f + 4 * distWords f ≤ 4096
-dist-ends = elim [ Igroupr ↦ omega arith | Isenabler ↦ omega arith | Icenabler ↦ omega arith | Ispendr ↦ omega arith | Icpendr ↦ omega arith | Isactiver ↦ omega arith | Icactiver ↦ omega arith | Igrpmodr ↦ omega arith | Icfgr ↦ omega arith ]
+abbrev extras : Family → ℕ
+extras f = (rowOf f) .extras
 
-redist-ends : (f : Family) → base f + 4 * redistWords f ≤ 4096
-redist-ends = elim [ Igroupr ↦ omega arith | Isenabler ↦ omega arith | Icenabler ↦ omega arith | Ispendr ↦ omega arith | Icpendr ↦ omega arith | Isactiver ↦ omega arith | Icactiver ↦ omega arith | Igrpmodr ↦ omega arith | Icfgr ↦ omega arith ]
+-- each family is found where its extended words begin
+starts : (f : Family) → extendedFrom (ext f) families ≡ entry.Extended f
+unfolding extendedFrom rowOf
+starts =
+    all-families (λ f. extendedFrom (ext f) families ≡ entry.Extended f)
+    (refl, (refl, (refl, (refl, (refl, (refl, (refl, (refl, (refl, tt)))))))))
 
-pub redist-beyond : (o : ℕ) → 4096 ≤ o → listed Redist o ≡ Refused refusal.Unlisted
-unfolding listed
-redist-beyond o h = column-beyond base redistWords redistPlace o (Refused refusal.Unlisted) h redist-ends families
+-- what holds of the families whose extended words begin at o, and of none, holds of what is found
+begun : (P : Entry → Type 0) (o : ℕ) → ((f : Family) → o ≡ ext f → P (entry.Extended f)) → P entry.None
+    → (fs : List Family) → P (extendedFrom o fs)
+unfolding extendedFrom
+begun P o h k [] = k
+begun P o h k (f ∷ fs) = chosen P (eqb o (ext f)) _ _ (λ t. h f (eqb-true o (ext f) t)) (λ t. begun P o h k fs)
 
-singles-beyond : (o : ℕ) → 4096 ≤ o → pick (eqb o 0x004) (At place.Typer) (inMessages o (Refused refusal.Unlisted) messages) ≡ Refused refusal.Unlisted
+extended : (o : ℕ) → placeIn Dist (extendedFrom (o - o % 512) families) o ≡ inColumn ext extras (place.Extended Dist) o families unlisted
+unfolding placeIn
+extended o =
+    column ext extras (place.Extended Dist) o unlisted (λ d. placeIn Dist (extendedFrom (o - o % 512) families) o ≡ d)
+    (λ f l u.
+    let t = tidy f in
+    let e : o - o % 512 ≡ ext f = omega arith in rw (e, starts f, lt-ltb (wordAt (ext f) o) (extras f) (omega arith)))
+    families
+    (λ n. begun (λ e. placeIn Dist e o ≡ unlisted) (o - o % 512)
+    (λ f e.
+    let out = all-families (NotIn ext extras o) n f (omega arith) in rw (le-ltb (wordAt (ext f) o) (extras f) (omega arith)))
+    refl families)
+
+singles : (o : ℕ) → 4096 ≤ o → cond (eqb o 0x004) (At place.Typer) (inMessages o messages unlisted) ≡ unlisted
 unfolding inMessages
-singles-beyond o h =
-    rw (ne-eqb o 0x004 (λ e. omega arith), ne-eqb o 0x040 (λ e. omega arith), ne-eqb o 0x048 (λ e. omega arith), ne-eqb o 0x050 (λ e. omega arith), ne-eqb o 0x058 (λ e. omega arith)) refl
+singles o h =
+    rw (ne-eqb o 0x004 (λ e. omega arith), ne-eqb o 0x040 (λ e. omega arith), ne-eqb o 0x048 (λ e. omega arith))
+    (rw (ne-eqb o 0x050 (λ e. omega arith), ne-eqb o 0x058 (λ e. omega arith)))
 
-pub dist-beyond : (o : ℕ) → 4096 ≤ o → listed Dist o ≡ inColumn extendedBase distWords (place.Extended Dist) o (Refused refusal.Unlisted) families
-unfolding listed
-dist-beyond o h =
-    column-beyond base distWords (place.Word Dist) o _ h dist-ends families
-    ∙ ap (λ (d : Decoded). inColumn extendedBase distWords (place.Extended Dist) o d families) (singles-beyond o h)
+beyond : (r : Frame) (o : ℕ) → 4096 ≤ o → placeIn r (extendedFrom (o - o % 512) families) o ≡ listed r o
+unfolding listed placeIn
+beyond Dist o h =
+    extended o
+    ∙ sym (column-past (λ f. (rowOf f) .base) (λ f. (rowOf f) .words) (place.Word Dist) o _ (λ f. let t = tidy f in omega arith) families
+    ∙ ap (λ (d : Decoded). inColumn ext extras (place.Extended Dist) o families d) (singles o h))
+beyond Redist o h =
+    begun (λ e. placeIn Redist e o ≡ unlisted) (o - o % 512) (λ f e. refl) refl families
+    ∙ sym (column-past (λ f. (rowOf f) .base) (λ f. (rowOf f) .redist) redistPlace o _ (λ f. let t = tidy f in omega arith) families)
 
--- how large a family's numbers are
-pub extended-small : (f : Family) → extendedBase f ≤ 0x3400
-extended-small = elim [ Igroupr ↦ omega arith | Isenabler ↦ omega arith | Icenabler ↦ omega arith | Ispendr ↦ omega arith | Icpendr ↦ omega arith | Isactiver ↦ omega arith | Icactiver ↦ omega arith | Igrpmodr ↦ omega arith | Icfgr ↦ omega arith ]
-
-pub words-small : (f : Family) → distWords f ≤ 64
-words-small = elim [ Igroupr ↦ omega arith | Isenabler ↦ omega arith | Icenabler ↦ omega arith | Ispendr ↦ omega arith | Icpendr ↦ omega arith | Isactiver ↦ omega arith | Icactiver ↦ omega arith | Igrpmodr ↦ omega arith | Icfgr ↦ omega arith ]
+pub agree : (r : Frame) (o : ℕ) → o % 4 ≡ 0 → placeIn r (entryAt o) o ≡ listed r o
+unfolding entryAt
+agree r o h =
+    chosen (λ e. placeIn r e o ≡ listed r o) (ltb o 4096) _ _
+    (λ t. let l = ltb-true o 4096 t in let e : 4 * (o / 4) ≡ o = omega arith in rw e at (within r (o / 4) (omega arith)))
+    (λ t. beyond r o (ltb-false o 4096 t))

@@ -1,1 +1,2 @@
+pub mod Columns
 pub mod Agree

@@ -1,54 +1,62 @@
--- What a map code stands for at an offset. Proved to be `listed` at every word of the first 4 KiB, in both frames.
-use mathlib.Core.Bool.{Bool, true, false}
-use Prim.Native.Nat.{ℕ, _-_, _/_}
+-- What stands at an offset, and its place in each frame: the way that the code goes. Proved to be `listed`, in both frames.
+use mathlib.Core.Bool.{cond}
+use mathlib.Core.List.{List, [], _∷_}
+use Prim.Native.Nat.{ℕ, _-_, _/_, _%_}
 use lib.Dec.{eqb, ltb}
+use Rattle.types.specs.declared.Frame.{Frame}
 use Rattle.types.specs.declared.Frame.the-variants.{Dist, Redist}
 use Rattle.types.specs.declared.Family.{Family}
-use Rattle.types.specs.declared.Family.the-variants.{Igroupr, Isenabler, Icenabler, Ispendr, Icpendr, Isactiver, Icactiver, Igrpmodr, Icfgr}
-use Rattle.types.specs.declared.Message.the-variants.{SetspiNsr, ClrspiNsr, SetspiSr, ClrspiSr}
+use Rattle.types.specs.declared.Message.{Message}
 use Rattle.types.specs.declared.Place.the-variants as place
 use Rattle.types.specs.declared.Refusal.the-variants as refusal
 use Rattle.types.specs.declared.Decoded.{Decoded}
 use Rattle.types.specs.declared.Decoded.the-variants.{At, Refused}
-use Rattle.meaning.specs.Registers.{base, redistWords, redistPlace, pick}
+use Rattle.meaning.specs.Registers.{rowOf, families, messages, redistPlace}
+use Rattle.map.specs.Map.{familyCode, messageCode, codeAt}
 use Rattle.listing.specs.declared.Entry.{Entry}
 use Rattle.listing.specs.declared.Entry.the-variants as entry
 
-abbrev pub choose : Bool → Entry → Entry → Entry
-choose true a b = a
-choose false a b = b
+abbrev pub familyOf : ℕ → List Family → Entry → Entry
+familyOf c [] other = other
+familyOf c (f ∷ fs) other = cond (eqb c (familyCode f)) (entry.Register f) (familyOf c fs other)
 
+abbrev pub messageOf : ℕ → List Message → Entry → Entry
+messageOf c [] other = other
+messageOf c (g ∷ gs) other = cond (eqb c (messageCode g)) (entry.Message g) (messageOf c gs other)
+
+-- what a code of the map stands for
 unfoldable pub entryOf : ℕ → Entry
-entryOf c =
-    choose (eqb c 1) (entry.Register Igroupr)
-    (choose (eqb c 2) (entry.Register Isenabler)
-    (choose (eqb c 3) (entry.Register Icenabler)
-    (choose (eqb c 4) (entry.Register Ispendr)
-    (choose (eqb c 5) (entry.Register Icpendr)
-    (choose (eqb c 6) (entry.Register Isactiver)
-    (choose (eqb c 7) (entry.Register Icactiver)
-    (choose (eqb c 8) (entry.Register Igrpmodr)
-    (choose (eqb c 9) (entry.Register Icfgr)
-    (choose (eqb c 10) entry.Typer
-    (choose (eqb c 11) (entry.Message SetspiNsr)
-    (choose (eqb c 12) (entry.Message ClrspiNsr)
-    (choose (eqb c 13) (entry.Message SetspiSr)
-    (choose (eqb c 14) (entry.Message ClrspiSr) entry.None)))))))))))))
+entryOf c = familyOf c families (cond (eqb c 10) entry.Typer (messageOf c messages entry.None))
 
--- the place in the Distributor frame of an entry at the offset o
-unfoldable pub distPlace : Entry → ℕ → Decoded
-distPlace (entry.Register f) o = At (place.Word Dist f ((o - base f) / 4))
-distPlace (entry.Message g) o = At (place.Message g)
-distPlace entry.Typer o = At place.Typer
-distPlace entry.None o = Refused refusal.Unlisted
+-- the family whose extended words begin at o
+unfoldable pub extendedFrom : ℕ → List Family → Entry
+extendedFrom o [] = entry.None
+extendedFrom o (f ∷ fs) = cond (eqb o ((rowOf f) .extended)) (entry.Extended f) (extendedFrom o fs)
 
--- word n of a family in the Redistributor frame
-unfoldable pub redistRegister : Family → ℕ → Decoded
-redistRegister f n = pick (ltb n (redistWords f)) (At (redistPlace f n)) (Refused refusal.Unlisted)
+-- The map has the first 4 KiB; beyond, a family's extended words begin at a multiple of 512 and end before the next.
+unfoldable pub entryAt : ℕ → Entry
+entryAt o = cond (ltb o 4096) (entryOf (codeAt (o / 4))) (extendedFrom (o - o % 512) families)
 
--- the place in the Redistributor frame, which has the first words of each family and nothing else
-unfoldable pub redistWord : Entry → ℕ → Decoded
-redistWord (entry.Register f) o = redistRegister f ((o - base f) / 4)
-redistWord (entry.Message g) o = Refused refusal.Unlisted
-redistWord entry.Typer o = Refused refusal.Unlisted
-redistWord entry.None o = Refused refusal.Unlisted
+-- the number of the word at o, of words that begin at b
+abbrev pub wordAt : ℕ → ℕ → ℕ
+wordAt b o = (o - b) / 4
+
+-- word n of a family, of those that the Distributor has extended and of those that the Redistributor has
+abbrev pub extendedWord : Family → ℕ → Decoded
+extendedWord f n = cond (ltb n ((rowOf f) .extras)) (At (place.Extended Dist f n)) (Refused refusal.Unlisted)
+
+abbrev pub redistWord : Family → ℕ → Decoded
+redistWord f n = cond (ltb n ((rowOf f) .redist)) (At (redistPlace f n)) (Refused refusal.Unlisted)
+
+-- an entry's place in a frame, at the offset o
+unfoldable pub placeIn : Frame → Entry → ℕ → Decoded
+placeIn Dist (entry.Register f) o = At (place.Word Dist f (wordAt ((rowOf f) .base) o))
+placeIn Dist (entry.Extended f) o = extendedWord f (wordAt ((rowOf f) .extended) o)
+placeIn Dist (entry.Message g) o = At (place.Message g)
+placeIn Dist entry.Typer o = At place.Typer
+placeIn Dist entry.None o = Refused refusal.Unlisted
+placeIn Redist (entry.Register f) o = redistWord f (wordAt ((rowOf f) .base) o)
+placeIn Redist (entry.Extended f) o = Refused refusal.Unlisted
+placeIn Redist (entry.Message g) o = Refused refusal.Unlisted
+placeIn Redist entry.Typer o = Refused refusal.Unlisted
+placeIn Redist entry.None o = Refused refusal.Unlisted

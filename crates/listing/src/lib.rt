@@ -1,18 +1,20 @@
 // The listed registers: the place of the word at an offset of a frame, or refusal 5.
 ghost use mathlib.Core.Path.{_≡_};
-ghost use Prim.Native.Nat.{_+_, _*_, _-_, _/_, _%_, _<_};
-ghost use Rattle.types.specs.declared.Frame.the-variants.{Dist};
-ghost use Rattle.types.specs.declared.Place.the-variants as place;
-ghost use Rattle.types.specs.declared.Refusal.the-variants as refusal;
-ghost use Rattle.types.specs.declared.Decoded.the-variants.{At, Refused};
-ghost use Rattle.meaning.specs.Layout.{between};
-ghost use Rattle.meaning.specs.Registers.{extendedBase, distWords, inColumn, families, listed};
-ghost use Rattle.listing.specs.Entry.{entryOf, distPlace, redistRegister, redistWord};
-use families::base;
-use families::digit_bits;
-use families::extended_base;
-use families::redist_words;
-use families::words;
+ghost use Prim.Native.Nat.{_%_};
+ghost use Rattle.types.specs.declared.Frame.the-variants.{Dist, Redist};
+ghost use Rattle.meaning.specs.Registers.{families, listed};
+ghost use Rattle.listing.specs.declared.Entry.the-variants as entry;
+ghost use Rattle.listing.specs.Entry.{entryOf, extendedFrom, entryAt, wordAt, placeIn};
+use families::Icactiver;
+use families::Icenabler;
+use families::Icfgr;
+use families::Icpendr;
+use families::Igroupr;
+use families::Igrpmodr;
+use families::Isactiver;
+use families::Isenabler;
+use families::Ispendr;
+use families::row_of;
 use map::code_at;
 use types::Decoded;
 use types::Family;
@@ -21,14 +23,16 @@ use types::Message;
 use types::Place;
 use types::Refusal;
 
-// What an entry of the register map stands for.
+// What stands at an offset.
 pub enum Entry {
     Register(Family),
+    Extended(Family),
     Message(Message),
     Typer,
     None,
 }
 
+// What a code of the register map stands for.
 fn entry_of(code: u8) -> Entry
     ensures { λ r. ⌜ r ≡ entryOf code ⌝ }
 {
@@ -51,9 +55,37 @@ fn entry_of(code: u8) -> Entry
     }
 }
 
+// The family whose extended words begin at an offset.
+fn extended_from(start: u32) -> Entry
+    ensures { λ r. ⌜ r ≡ extendedFrom start families ⌝ }
+{
+    match start {
+        Igroupr::EXTENDED => Entry::Extended(Family::Igroupr),
+        Isenabler::EXTENDED => Entry::Extended(Family::Isenabler),
+        Icenabler::EXTENDED => Entry::Extended(Family::Icenabler),
+        Ispendr::EXTENDED => Entry::Extended(Family::Ispendr),
+        Icpendr::EXTENDED => Entry::Extended(Family::Icpendr),
+        Isactiver::EXTENDED => Entry::Extended(Family::Isactiver),
+        Icactiver::EXTENDED => Entry::Extended(Family::Icactiver),
+        Igrpmodr::EXTENDED => Entry::Extended(Family::Igrpmodr),
+        Icfgr::EXTENDED => Entry::Extended(Family::Icfgr),
+        _ => Entry::None,
+    }
+}
+
+// The map has the first 4 KiB of both frames. Beyond, a family's extended words begin at a multiple of 512 and end before the next.
+fn entry_at(offset: u32) -> Entry
+    ensures { λ r. ⌜ r ≡ entryAt offset ⌝ }
+{
+    if offset < 4096 {
+        return entry_of(code_at((offset / 4) as usize));
+    }
+    extended_from(offset - offset % 512)
+}
+
 // The number of the word at `offset` among words that begin at `from`.
-fn word_number(from: u32, offset: u32) -> u32
-    ensures { λ n. ⌜ n ≡ (offset - from) / 4 ⌝ }
+fn word_at(from: u32, offset: u32) -> u32
+    ensures { λ n. ⌜ n ≡ wordAt from offset ⌝ }
 {
     if offset < from {
         return 0;
@@ -61,110 +93,74 @@ fn word_number(from: u32, offset: u32) -> u32
     (offset - from) / 4
 }
 
-fn dist_place(entry: Entry, offset: u32) -> Decoded
-    ensures { λ d. ⌜ d ≡ distPlace entry offset ⌝ }
+// An extended word of the Distributor, or no word.
+fn extended_word(f: Family, offset: u32) -> Decoded
+    ensures { λ d. ⌜ d ≡ placeIn Dist (entry.Extended f) offset ⌝ }
 {
-    match entry {
-        Entry::Register(f) => Decoded::At(Place::Word(
-            Frame::Dist,
-            f,
-            word_number(base(f), offset),
-        )),
-        Entry::Message(g) => Decoded::At(Place::Message(g)),
-        Entry::Typer => Decoded::At(Place::Typer),
-        Entry::None => Decoded::Refused(Refusal::Unlisted),
-    }
-}
-
-fn redist_word(entry: Entry, offset: u32) -> Decoded
-    ensures { λ d. ⌜ d ≡ redistWord entry offset ⌝ }
-{
-    match entry {
-        Entry::Register(f) => redist_register(f, word_number(base(f), offset)),
-        Entry::Message(_) => Decoded::Refused(Refusal::Unlisted),
-        Entry::Typer => Decoded::Refused(Refusal::Unlisted),
-        Entry::None => Decoded::Refused(Refusal::Unlisted),
-    }
-}
-
-// Word n of a family in the Redistributor frame: its SGIs and PPIs, its extended PPIs, or no word.
-fn redist_register(f: Family, n: u32) -> Decoded
-    ensures { λ d. ⌜ d ≡ redistRegister f n ⌝ }
-{
-    if redist_words(f) <= n {
+    let row = row_of(f);
+    let extras = row.extras;
+    let n = word_at(row.extended, offset);
+    if extras <= n {
         return Decoded::Refused(Refusal::Unlisted);
     }
-    if n < digit_bits(f) {
+    Decoded::At(Place::Extended(Frame::Dist, f, n))
+}
+
+// A word of the Redistributor: its SGIs and PPIs, its extended PPIs, or no word.
+fn redist_word(f: Family, offset: u32) -> Decoded
+    ensures { λ d. ⌜ d ≡ placeIn Redist (entry.Register f) offset ⌝ }
+{
+    let row = row_of(f);
+    let words = row.redist;
+    let per = row.per;
+    let n = word_at(row.base, offset);
+    if words <= n {
+        return Decoded::Refused(Refusal::Unlisted);
+    }
+    if per * n < 32 {
         Decoded::At(Place::Word(Frame::Redist, f, n))
     } else {
         Decoded::At(Place::Extended(Frame::Redist, f, n))
     }
 }
 
-fn in_extended(f: Family, offset: u32) -> bool
-    ensures { λ r. ⌜ r ≡ between (extendedBase f) (extendedBase f + 4 * distWords f) offset ⌝ }
+// An entry's place in the Distributor.
+fn dist_place(entry: Entry, offset: u32) -> Decoded
+    ensures { λ d. ⌜ d ≡ placeIn Dist entry offset ⌝ }
 {
-    let from = extended_base(f);
-    if offset < from {
-        return false;
+    match entry {
+        Entry::Register(f) => {
+            let row = row_of(f);
+            Decoded::At(Place::Word(Frame::Dist, f, word_at(row.base, offset)))
+        }
+        Entry::Extended(f) => extended_word(f, offset),
+        Entry::Message(g) => Decoded::At(Place::Message(g)),
+        Entry::Typer => Decoded::At(Place::Typer),
+        Entry::None => Decoded::Refused(Refusal::Unlisted),
     }
-    offset < from + 4 * words(f)
 }
 
-fn extended(f: Family, offset: u32) -> Decoded
-    ensures { λ d. ⌜ d ≡ At (place.Extended Dist f ((offset - extendedBase f) / 4)) ⌝ }
+// An entry's place in the Redistributor, which has the first words of each family and nothing else.
+fn redist_place(entry: Entry, offset: u32) -> Decoded
+    ensures { λ d. ⌜ d ≡ placeIn Redist entry offset ⌝ }
 {
-    Decoded::At(Place::Extended(Frame::Dist, f, word_number(extended_base(f), offset)))
+    match entry {
+        Entry::Register(f) => redist_word(f, offset),
+        Entry::Extended(_) => Decoded::Refused(Refusal::Unlisted),
+        Entry::Message(_) => Decoded::Refused(Refusal::Unlisted),
+        Entry::Typer => Decoded::Refused(Refusal::Unlisted),
+        Entry::None => Decoded::Refused(Refusal::Unlisted),
+    }
 }
 
-// The Distributor's extended words.
-fn extended_at(offset: u32) -> Decoded
-    ensures { λ d. ⌜ d ≡ inColumn extendedBase distWords (place.Extended Dist) offset (Refused refusal.Unlisted) families ⌝ }
-{
-    if in_extended(Family::Igroupr, offset) {
-        return extended(Family::Igroupr, offset);
-    }
-    if in_extended(Family::Isenabler, offset) {
-        return extended(Family::Isenabler, offset);
-    }
-    if in_extended(Family::Icenabler, offset) {
-        return extended(Family::Icenabler, offset);
-    }
-    if in_extended(Family::Ispendr, offset) {
-        return extended(Family::Ispendr, offset);
-    }
-    if in_extended(Family::Icpendr, offset) {
-        return extended(Family::Icpendr, offset);
-    }
-    if in_extended(Family::Isactiver, offset) {
-        return extended(Family::Isactiver, offset);
-    }
-    if in_extended(Family::Icactiver, offset) {
-        return extended(Family::Icactiver, offset);
-    }
-    if in_extended(Family::Igrpmodr, offset) {
-        return extended(Family::Igrpmodr, offset);
-    }
-    if in_extended(Family::Icfgr, offset) {
-        return extended(Family::Icfgr, offset);
-    }
-    Decoded::Refused(Refusal::Unlisted)
-}
-
-// The place of the word at an offset that is a multiple of 4. The map covers both frames' first 4 KiB.
+// The place of the word at an offset that is a multiple of 4.
 pub fn listed_at(frame: Frame, offset: u32) -> Decoded
     requires { ⌜ offset % 4 ≡ 0 ⌝ }
     ensures { λ d. ⌜ d ≡ listed frame offset ⌝ }
 {
-    if offset < 4096 {
-        let entry = entry_of(code_at((offset / 4) as usize));
-        match frame {
-            Frame::Dist => return dist_place(entry, offset),
-            Frame::Redist => return redist_word(entry, offset),
-        }
-    }
+    let entry = entry_at(offset);
     match frame {
-        Frame::Dist => extended_at(offset),
-        Frame::Redist => Decoded::Refused(Refusal::Unlisted),
+        Frame::Dist => dist_place(entry, offset),
+        Frame::Redist => redist_place(entry, offset),
     }
 }

@@ -2,7 +2,8 @@
 use Prim.Native.Nat.{ℕ, _*_}
 use Rattle.types.specs.declared.Frame.the-variants.{Dist}
 use Rattle.types.specs.declared.Family.{Family}
-use Rattle.types.specs.declared.Family.the-variants.{Igroupr, Isenabler, Icenabler, Ispendr, Icpendr, Isactiver, Icactiver, Igrpmodr, Icfgr}
+use Rattle.types.specs.declared.Family.the-variants.{Igroupr, Isenabler, Icenabler, Ispendr, Icpendr}
+use Rattle.types.specs.declared.Family.the-variants.{Isactiver, Icactiver, Igrpmodr, Icfgr}
 use Rattle.types.specs.declared.Message.{Message}
 use Rattle.types.specs.declared.Message.the-variants.{SetspiNsr, ClrspiNsr, SetspiSr, ClrspiSr}
 use Rattle.types.specs.declared.Place.the-variants as place

@@ -1,53 +1,18 @@
-use Rattle.listing.specs.Entry.{distPlace}
+-- `dist_place` finds an entry's place in the Distributor. Ways out: one for each kind of entry.
 use borrow.Author.Needs.{needs}
+use Rattle.listing.specs.Entry.{placeIn}
 use Rattle.listing.proofs.dist_place.Statement.{statement}
 use Rattle.listing.proofs.dist_place.Tie as tie
 
-enum-known-entry : tie.Need-enum-known-entry
-enum-known-entry c = search needs
-
-base-requires : tie.Need-base-requires
-base-requires c κs = search needs
-
-word-number-requires : tie.Need-word-number-requires
-word-number-requires c κs = search needs
-
-enum-known-entry-2 : tie.Need-enum-known-entry-2
-enum-known-entry-2 c = search needs
-
-enum-told : tie.Need-enum-told
-enum-told c = search needs
-
-enum-told-2 : tie.Need-enum-told-2
-enum-told-2 c = search needs
-
-returns : tie.Need-returns
-unfolding distPlace
-returns c = rw (c .before .before .before .entry .given .1, c .word-number .ensures, c .before .base .ensures)
-
-returns-2 : tie.Need-returns-2
-unfolding distPlace
-returns-2 c = rw (c .before .entry2 .given .1)
-
-returns-3 : tie.Need-returns-3
-unfolding distPlace
-returns-3 c = rw (c .enum-told .given .1)
-
-returns-4 : tie.Need-returns-4
-unfolding distPlace
-returns-4 c = rw (c .enum-told2 .given .1)
-
 pub dist-place-spec : {M : Type 1} → statement M
+unfolding placeIn
 dist-place-spec =
     tie.close
-    (tie.spec
-    enum-known-entry
-    base-requires
-    word-number-requires
-    enum-known-entry-2
-    enum-told
-    enum-told-2
-    returns
-    returns-2
-    returns-3
-    returns-4)
+    (tie.spec (λ c. search needs) (λ c κs. search needs) (λ c κs. search needs) (λ c. search needs) (λ c κs. search needs)
+    (λ c. search needs) (λ c. search needs) (λ c. search needs)
+    (λ c.
+    let p : tie.After-entry = c .before .before .before in rw (p .entry .given .1, c .word-at .ensures, c .before .row-of .ensures))
+    (λ c. rw (c .before .before .entry2 .given .1) (c .extended-word .ensures))
+    (λ c. rw (c .before .entry3 .given .1))
+    (λ c. rw (c .enum-told .given .1))
+    (λ c. rw (c .enum-told2 .given .1)))

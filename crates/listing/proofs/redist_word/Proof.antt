@@ -1,57 +1,26 @@
-use Rattle.listing.specs.Entry.{redistWord}
+-- `redist_word` finds the place of a word of the Redistributor. Ways out: no such word; SGIs and PPIs; extended PPIs.
+use native.Mathlib.Omega.{arith}
 use borrow.Author.Needs.{needs}
+use borrow.Author.Tests.{lt-ltb, le-ltb}
+use Rattle.meaning.specs.Registers.{perWord}
+use Rattle.families.proofs.Rows.{tidy-row}
+use Rattle.listing.specs.Entry.{placeIn}
 use Rattle.listing.proofs.redist_word.Statement.{statement}
 use Rattle.listing.proofs.redist_word.Tie as tie
 
-enum-known-entry : tie.Need-enum-known-entry
-enum-known-entry c = search needs
-
-base-requires : tie.Need-base-requires
-base-requires c κs = search needs
-
-word-number-requires : tie.Need-word-number-requires
-word-number-requires c κs = search needs
-
-redist-register-requires : tie.Need-redist-register-requires
-redist-register-requires c κs = search needs
-
-enum-told : tie.Need-enum-told
-enum-told c = search needs
-
-enum-told-2 : tie.Need-enum-told-2
-enum-told-2 c = search needs
-
-enum-told-3 : tie.Need-enum-told-3
-enum-told-3 c = search needs
-
-returns : tie.Need-returns
-unfolding redistWord
-returns c = rw (c .before .before .before .before .entry .given .1, c .redist-register .ensures, c .before .word-number .ensures, c .before .before .base .ensures)
-
-returns-2 : tie.Need-returns-2
-unfolding redistWord
-returns-2 c = rw (c .enum-told .given .1)
-
-returns-3 : tie.Need-returns-3
-unfolding redistWord
-returns-3 c = rw (c .enum-told2 .given .1)
-
-returns-4 : tie.Need-returns-4
-unfolding redistWord
-returns-4 c = rw (c .enum-told3 .given .1)
-
 pub redist-word-spec : {M : Type 1} → statement M
+unfolding placeIn
 redist-word-spec =
     tie.close
-    (tie.spec
-    enum-known-entry
-    base-requires
-    word-number-requires
-    redist-register-requires
-    enum-told
-    enum-told-2
-    enum-told-3
-    returns
-    returns-2
-    returns-3
-    returns-4)
+    (tie.spec (λ c κs. search needs) (λ c κs. search needs)
+    (λ c. let p = c .before in rw (← (p .before .row-of .ensures), ← (p .word-at .ensures), le-ltb _ _ (c .if1 .taken)))
+    (λ c.
+    let p = c .before in
+    let t = tidy-row _ (p .before .row-of .ensures) in
+    let h = t .first (p .word-at .result) (omega arith) in record { fits = omega arith })
+    (λ c.
+    let p = c .before .before in
+    rw (perWord, ← (p .before .row-of .ensures), ← (p .word-at .ensures), lt-ltb _ _ (c .before .if1 .left), lt-ltb _ _ (c .if2 .taken)))
+    (λ c.
+    let p = c .before .before in
+    rw (perWord, ← (p .before .row-of .ensures), ← (p .word-at .ensures), lt-ltb _ _ (c .before .if1 .left), le-ltb _ _ (c .if2 .left))))
