@@ -1,5 +1,6 @@
-pub mod Facts
-pub mod Ruled
+pub mod Banks
 pub mod Words
+pub mod Ones
+pub mod Targets
 pub mod Uses
-pub mod Named
+pub mod Rooms

@@ -1,104 +1,114 @@
--- The laws of words as the code meets them: the frame known, the word's parameters as they were computed.
-use mathlib.Core.Path.{_≡_, refl, sym, ap, _∙_, subst}
-use mathlib.Core.Bool.{Bool, true, cond, _&&_}
-use mathlib.Core.List.{List, [], _++_}
-use Prim.Native.Nat.{ℕ, _+_, _-_, _/_, _%_, _^_, _≤_}
+-- What the engine's functions ask and answer at a span.
+--   asked, end-inside    its bounds
+--   fitting, fewer       the loops have digits for its part
+--   at-slot, at-none     what is done at its first slot, if it has one
+--   happened-slot, happened-none, refused-same, done-set, sent-off, sent-on    an event and a message there
+use mathlib.Core.Path.{_≡_, sym, ap, subst, _∙_}
+use mathlib.Core.Bool.{Bool, true, false, cond}
+use mathlib.Core.List.{List}
+use Prim.Native.Nat.{ℕ, _+_, _-_, _%_, _≤_, _<_}
 use native.Mathlib.Omega.{arith}
-use lib.ListN.{length, getD, take, drop, length-take}
-use Rattle.lists.specs.Word.{bitAt}
+use native.Mathlib.Nat.{le-trans, mul-le-mul-right}
+use lib.Dec.{ltb}
+use lib.ListN.{length, getD, take, drop, set, length-take}
+use lib.Seq.{set-getD}
+use borrow.Author.Tests.{lt-ltb, le-ltb}
 use Rattle.types.specs.declared.Frame.{Frame}
-use Rattle.types.specs.declared.Frame.the-variants.{Dist, Redist}
-use Rattle.types.specs.declared.Shape.{Shape}
 use Rattle.types.specs.declared.Side.{Side}
-use Rattle.types.specs.declared.Family.{Family}
-use Rattle.types.specs.declared.Place.{Place}
-use Rattle.types.specs.declared.Home.{Home}
-use Rattle.types.specs.declared.Home.the-variants.{Slot, Nowhere}
-use Rattle.meaning.specs.Layout.{Tables, lent, recordsOf, presenceOf, wellFormed, inRange, homeOf, presentAt, implemented, cellOf}
-use Rattle.meaning.specs.Registers.{perWord, first, count}
-use Rattle.meaning.specs.Rule.{wordWritten}
-use Rattle.meaning.specs.Step.{ruled, wordRead}
-use Rattle.words.specs.declared.Word.{Word}
-use Rattle.words.specs.Part.{Fitting, gathered, stored}
-use Rattle.homes.specs.Home.{presences}
-use Rattle.spans.specs.Span.{valid, frameOf, startOf, endOf, presenceIndex, inShape, shiftOf, maskOf}
-use Rattle.spans.proofs.Spans.{spanned, other, first-small, digits-fit}
-use Rattle.engine.specs.Stepped.{Ruled}
-use Rattle.engine.proofs.Facts.{table-length}
-use Rattle.engine.proofs.Ruled.{Bytes}
-use Rattle.engine.proofs.Words.{wordAt, part-ruled, other-ruled, gathered-read}
+use Rattle.types.specs.declared.Shape.{Shape}
+use Rattle.types.specs.declared.Message.{Message}
+use Rattle.types.specs.declared.Event.{Event}
+use Rattle.types.specs.declared.Window.{Window}
+use Rattle.types.specs.declared.Refusal.the-variants as refusal
+use Rattle.types.specs.declared.Answer.{Answer}
+use Rattle.types.specs.declared.Answer.the-variants.{Refused}
+use Rattle.meaning.specs.Interrupt.{Interrupt}
+use Rattle.meaning.specs.Cell.{Cell, decode, encode}
+use Rattle.meaning.specs.Registers.{bitsOf}
+use Rattle.meaning.specs.Rule.{eventAnswer, isDone, happened}
+use Rattle.meaning.proofs.Choices.{cond-true, cond-false}
+use Rattle.meaning.proofs.Bytes.{encode-decode}
+use Rattle.families.specs.Fits.{Fits}
+use Rattle.messages.specs.Delivered.{delivered}
+use Rattle.words.specs.Part.{Fitting, Numbered}
+use Rattle.spans.specs.declared.Span.{Span}
+use Rattle.spans.specs.Span.{spanOf}
+use Rattle.spans.proofs.Spanned.{Bounded, bounded}
+use Rattle.engine.specs.Bank.{Bank, part, wordOf, cellIn, onSlot, sentIn, eventful, answerIn, Happened}
 
--- presence is looked up in the presence words alone
-presence-same : (t : Tables) (r : Frame) → presenceOf r t ≡ presenceOf r (presences (t .distPresence) (t .redistPresence))
-presence-same t Dist = refl
-presence-same t Redist = refl
+-- ITS BOUNDS
+pub asked : (s : Shape) (f : Frame) (xs ps : List ℕ) (m n : ℕ) (p : Span) → Bank s f xs ps → m % 32 + n ≤ 32 → p ≡ spanOf s ps f m n
+    → Bounded f n p
+asked s f xs ps m n p b room e = subst (Bounded f n) (sym e) (bounded s ps (b .shape) f m n room)
 
-pub mask-same : (s : Shape) (t : Tables) (p : Place) → maskOf s t p ≡ maskOf s (presences (t .distPresence) (t .redistPresence)) p
-unfolding maskOf
-mask-same s t p = ap (λ (xs : List ℕ). cond (inShape s p) (getD xs (presenceIndex p) 0) 0 / 2 ^ shiftOf p) (presence-same t (frameOf p))
+pub end-inside : (s : Shape) (f : Frame) (xs ps : List ℕ) (n : ℕ) (p : Span) → Bank s f xs ps → Bounded f n p → p .end ≤ length xs
+end-inside s f xs ps n p b h = let l = b .slots-lent in let i = h .inside in omega arith
 
-present-same : (t : Tables) (x : ℕ) (h : Home) → presentAt t x h ≡ presentAt (presences (t .distPresence) (t .redistPresence)) x h
-present-same t x (Slot r k w) = ap (λ (xs : List ℕ). bitAt (getD xs w 0) x) (presence-same t r)
-present-same t x Nowhere = refl
+-- THE LOOPS
+few : (p : Span) (xs : List ℕ) → length (part p xs) ≤ p .end - p .start
+few p xs = let l = length-take (p .end - p .start) (drop (p .start) xs) in omega arith
 
-pub implemented-same : (s : Shape) (t : Tables) (m : ℕ) → implemented s t m ≡ implemented s (presences (t .distPresence) (t .redistPresence)) m
-unfolding implemented
-implemented-same s t m = ap (λ (b : Bool). inRange s m && b) (present-same t (m % 32) (homeOf m))
+pub fewer : (w : Window) (p : Span) (xs : List ℕ) (at : ℕ → Interrupt) → p .end - p .start ≤ w .count → Numbered (w .count) (w .first) at
+    → Numbered (length (part p xs)) (w .first) at
+fewer w p xs at short n x l = n x (let u = few p xs in let v : x < length (part p xs) = l in omega arith)
 
-module _ (s : Shape) (t : Tables) (well : wellFormed s t ≡ true) (side : Side) (f : Family) (p : Place) (ok : valid p ≡ true) (x y : ℕ)
-    (at : x ≡ first p) (mask : y ≡ maskOf s (presences (t .distPresence) (t .redistPresence)) p) where
-  -- the word that the code makes is the law's
-  same-word : _≡_ {A = Word} (record { side = side; family = f; first = x; implemented = y }) (wordAt s t side f p)
-  same-word = λ i. record { side = side; family = f; first = at i; implemented = (mask ∙ sym (mask-same s t p)) i }
+pub fitting : (w : Window) → Fits w → (side : Side) (p : Span) (xs : List ℕ) → p .end - p .start ≤ w .count
+    → Fitting (wordOf side w p) (part p xs)
+fitting w room side p xs short =
+    let l = few p xs in
+    let all : length (part p xs) ≤ w .count = omega arith in
+    record { digits = le-trans (mul-le-mul-right (bitsOf (w .family)) all) (room .digits); numbers = room .numbers }
 
-  -- the loops' condition
-  pub word-fits : count p ≤ perWord f → (part : List ℕ) → length part ≤ endOf p - startOf p → Fitting (record { side = side; family = f; first = x; implemented = y }) part
-  word-fits few part l =
-      let sp = spanned p ok in
-      record { digits = digits-fit f (length part) (let q = sp .short in omega arith); numbers = let h = first-small p ok in omega arith }
+-- ONE SLOT
+module _ (g : Cell → Cell) (p : Span) (xs : List ℕ) where
+  pub at-slot : p .start < p .end → set xs (p .start) (encode (g (cellIn p xs))) ≡ onSlot g p xs
+  unfolding onSlot
+  at-slot l = sym (cond-true (ltb (p .start) (p .end)) _ _ (lt-ltb (p .start) (p .end) l))
 
-  -- the laws of words, in the frame that the code found
-  Put : ℕ → Frame → List ℕ → Type 0
-  Put v r ys =
-      take (startOf p) (recordsOf r t) ++ (ys ++ drop (endOf p - startOf p) (drop (startOf p) (recordsOf r t))) ≡ ruled s t (wordWritten side f p v) r
+  pub at-none : p .end ≤ p .start → xs ≡ onSlot g p xs
+  unfolding onSlot
+  at-none l = sym (cond-false (ltb (p .start) (p .end)) _ _ (le-ltb (p .start) (p .end) l))
 
-  part-in : (v : ℕ) (r : Frame) → frameOf p ≡ r → Bytes (recordsOf r t) → (ys : List ℕ)
-      → ys ≡ stored (record { side = side; family = f; first = x; implemented = y }) v (take (endOf p - startOf p) (drop (startOf p) (recordsOf r t))) → Put v r ys
-  unfolding Put
-  part-in v r e b ys h =
-      ap (λ (zs : List ℕ). take (startOf p) (recordsOf r t) ++ (zs ++ drop (endOf p - startOf p) (drop (startOf p) (recordsOf r t))))
-      (h ∙ ap (λ (w : Word). stored w v (take (endOf p - startOf p) (drop (startOf p) (recordsOf r t)))) same-word)
-      ∙ subst (λ (z : Frame). Bytes (recordsOf z t) → take (startOf p) (recordsOf z t) ++ (stored (wordAt s t side f p) v (take (endOf p - startOf p) (drop (startOf p) (recordsOf z t))) ++ drop (endOf p - startOf p) (drop (startOf p) (recordsOf z t))) ≡ ruled s t (wordWritten side f p v) z)
-      e (part-ruled s t well side f p ok v) b
+-- an event
+module _ (s : Shape) (e : Event) (i : Interrupt) where
+  answer-slot : (p : Span) (xs : List ℕ) → p .start < p .end → eventAnswer s e i (cellIn p xs) ≡ answerIn s e i p xs
+  unfolding answerIn
+  answer-slot p xs l = sym (cond-true (ltb (p .start) (p .end)) _ _ (lt-ltb (p .start) (p .end) l))
 
-  left-in : (v : ℕ) (r : Frame) → frameOf p ≡ r → Bytes (recordsOf (other r) t) → ruled s t (wordWritten side f p v) (other r) ≡ recordsOf (other r) t
-  left-in v r e b =
-      subst (λ (z : Frame). Bytes (recordsOf (other z) t) → ruled s t (wordWritten side f p v) (other z) ≡ recordsOf (other z) t) e (other-ruled s t well side f p ok v) b
+  answer-none : (p : Span) (xs : List ℕ) → p .end ≤ p .start → Refused refusal.Intid ≡ answerIn s e i p xs
+  unfolding answerIn
+  answer-none p xs l = sym (cond-false (ltb (p .start) (p .end)) _ _ (le-ltb (p .start) (p .end) l))
 
-  pub write-dist : frameOf p ≡ Dist → (v : ℕ) → Bytes (t .dist) → Bytes (t .redist) → (ys : List ℕ)
-      → ys ≡ stored (record { side = side; family = f; first = x; implemented = y }) v (take (endOf p - startOf p) (drop (startOf p) (t .dist)))
-      → Ruled s t (wordWritten side f p v) (take (startOf p) (t .dist) ++ (ys ++ drop (endOf p - startOf p) (drop (startOf p) (t .dist)))) (t .redist)
-  unfolding Put
-  write-dist here v bd br ys e = record { dist-ruled = part-in v Dist here bd ys e; redist-ruled = sym (left-in v Dist here br) }
+  -- at a span q that was asked for
+  pub happened-slot : (p q : Span) (xs ys : List ℕ) (a : Answer) → p ≡ q → p .start < p .end → a ≡ eventAnswer s e i (cellIn p xs)
+      → ys ≡ set xs (p .start) (encode (eventful s e i (cellIn p xs))) → Happened s e i q xs a ys
+  happened-slot p q xs ys a z l h k =
+      subst (λ (o : Span). Happened s e i o xs a ys) z
+      (record { answered = h ∙ answer-slot p xs l; records = k ∙ at-slot (eventful s e i) p xs l })
 
-  pub write-redist : frameOf p ≡ Redist → (v : ℕ) → Bytes (t .dist) → Bytes (t .redist) → (ys : List ℕ)
-      → ys ≡ stored (record { side = side; family = f; first = x; implemented = y }) v (take (endOf p - startOf p) (drop (startOf p) (t .redist)))
-      → Ruled s t (wordWritten side f p v) (t .dist) (take (startOf p) (t .redist) ++ (ys ++ drop (endOf p - startOf p) (drop (startOf p) (t .redist))))
-  unfolding Put
-  write-redist here v bd br ys e = record { dist-ruled = sym (left-in v Redist here bd); redist-ruled = part-in v Redist here br ys e }
+  pub happened-none : (p q : Span) (xs : List ℕ) → p ≡ q → p .end ≤ p .start → Happened s e i q xs (Refused refusal.Intid) xs
+  happened-none p q xs z l =
+      subst (λ (o : Span). Happened s e i o xs (Refused refusal.Intid) xs) z
+      (record { answered = answer-none p xs l; records = at-none (eventful s e i) p xs l })
 
-  pub read-part : gathered (record { side = side; family = f; first = x; implemented = y }) (take (endOf p - startOf p) (drop (startOf p) (recordsOf (frameOf p) t))) ≡ wordRead side f p (cellOf s t)
-  read-part = ap (λ (w : Word). gathered w (take (endOf p - startOf p) (drop (startOf p) (recordsOf (frameOf p) t)))) same-word ∙ gathered-read s t well side f p ok
+  pub refused-same : (b : Bool) (k : ℕ) (xs : List ℕ) → isDone (eventAnswer s e i (decode b (getD xs k 0))) ≡ false
+      → xs ≡ set xs k (encode (eventful s e i (decode b (getD xs k 0))))
+  unfolding eventful
+  refused-same b k xs h =
+      sym (ap (λ (c : Cell). set xs k (encode c)) (cond-false (isDone (eventAnswer s e i (decode b (getD xs k 0)))) _ _ h)
+      ∙ (ap (set xs k) (encode-decode b (getD xs k 0)) ∙ set-getD xs k 0))
 
--- the span is inside its table
-pub span-inside : (s : Shape) (t : Tables) → wellFormed s t ≡ true → (p : Place) → valid p ≡ true
-    → (startOf p ≤ endOf p) × (endOf p ≤ length (recordsOf (frameOf p) t))
-span-inside s t well p ok = let sp = spanned p ok in let size = table-length s t well (frameOf p) in (sp .ordered, let i = sp .inside in omega arith)
+  pub done-set : (c : Cell) (k v : ℕ) (xs : List ℕ) → isDone (eventAnswer s e i c) ≡ true → v ≡ encode (happened s e i c)
+      → set xs k v ≡ set xs k (encode (eventful s e i c))
+  unfolding eventful
+  done-set c k v xs h w = ap (set xs k) (w ∙ ap encode (sym (cond-true (isDone (eventAnswer s e i c)) _ _ h)))
 
-pub part-length : (a e : ℕ) (xs : List ℕ) → length (take (e - a) (drop a xs)) ≤ e - a
-part-length a e xs = let h = length-take (e - a) (drop a xs) in omega arith
+-- a message
+module _ (s : Shape) (side : Side) (g : Message) (i : Interrupt) (p : Span) (xs : List ℕ) where
+  pub sent-off : s .mbis ≡ false → xs ≡ sentIn s side g i p xs
+  unfolding sentIn
+  sent-off h = sym (cond-false (s .mbis) _ _ h)
 
--- the records of a frame do not depend on presence
-pub records-same : (d r dp rp : List ℕ) (k : Frame) → recordsOf k (lent d r dp rp) ≡ recordsOf k (lent d r [] [])
-records-same d r dp rp Dist = refl
-records-same d r dp rp Redist = refl
+  pub sent-on : s .mbis ≡ true → onSlot (delivered s side g i) p xs ≡ sentIn s side g i p xs
+  unfolding sentIn
+  sent-on h = sym (cond-true (s .mbis) _ _ h)

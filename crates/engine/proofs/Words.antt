@@ -1,122 +1,175 @@
--- A register word on the tables: what a write leaves is the rule's, and what a read gathers is what the rule shows.
-use mathlib.Core.Path.{_≡_, sym, ap, ap₂, _∙_}
-use mathlib.Core.Bool.{Bool, true, false, _&&_}
-use mathlib.Core.List.{List, _++_}
+-- A REGISTER WORD in its bank: what the engine writes is the rule at every slot of it, what it reads is what the rule shows. The bank is
+-- known here by `Spanned` alone.
+--   write-meant    the bank after a write
+--   read-meant     the word that is read
+use mathlib.Core.Path.{_≡_, refl, sym, ap, ap₂, _∙_}
+use mathlib.Core.Bool.{Bool, true, false, cond, _&&_}
+use mathlib.Core.List.{List}
 use mathlib.Core.Logic.{_⊎_, inl, inr}
-use Prim.Native.Nat.{ℕ, _+_, _-_, _%_, _≤_, _<_}
+use Prim.Native.Nat.{ℕ, _+_, _-_, _≤_, _<_}
 use native.Mathlib.Omega.{arith}
+use native.Mathlib.Decide.{decLt}
 use lib.ListN.{length, getD, take, drop, length-take, length-drop}
 use lib.Seq.{getD-take, getD-drop}
 use Rattle.lists.specs.Map.{mapFrom}
-use Rattle.lists.specs.Word.{digitAt, row}
+use Rattle.lists.specs.Word.{bitAt, digitAt, row}
 use Rattle.lists.proofs.Maps.{mapFrom-part}
 use Rattle.lists.proofs.Rows.{row-same, row-cut}
-use Rattle.types.specs.declared.Shape.{Shape}
+use Rattle.lists.proofs.Bools.{both}
+use Rattle.types.specs.declared.Frame.{Frame}
+use Rattle.types.specs.declared.Frame.the-variants.{Dist, Redist}
 use Rattle.types.specs.declared.Side.{Side}
-use Rattle.types.specs.declared.Family.{Family}
-use Rattle.types.specs.declared.Place.{Place}
-use Rattle.meaning.specs.Cell.{decode, encode}
-use Rattle.meaning.specs.Layout.{Tables, recordsOf, wellFormed, between, intidOf, homeOf, presentAt, implemented, cellOf}
-use Rattle.meaning.specs.Registers.{digitBits, first, count, names}
-use Rattle.meaning.specs.Rule.{gated, touched, visible, wordWritten}
-use Rattle.meaning.specs.Step.{ruled, wordRead}
-use Rattle.meaning.proofs.Bytes.{encode-decode}
-use Rattle.meaning.proofs.Cells.{gated-true, gated-false}
-use Rattle.meaning.proofs.Rules.{missing-unseen}
-use Rattle.meaning.proofs.Homes.{slot-home, between-in, between-below, between-above}
-use Rattle.words.specs.declared.Word.{Word}
+use Rattle.types.specs.declared.Way.the-variants.{Write}
+use Rattle.types.specs.declared.Shape.{Shape}
+use Rattle.types.specs.declared.Kind.{Kind}
+use Rattle.types.specs.declared.Window.{Window}
+use Rattle.meaning.specs.Interrupt.{Interrupt, intid, interrupt, inFrame, between}
+use Rattle.meaning.specs.Cell.{Cell, decode, encode}
+use Rattle.meaning.specs.Layout.{Tables, recordsOf, lengthsFit, slots, interruptAt, implemented, cellOf}
+use Rattle.meaning.specs.Registers.{kindOf, bitsOf, names}
+use Rattle.meaning.specs.Rule.{write, reaches, update, visible, aims, admits, effect, performed}
+use Rattle.meaning.specs.Step.{column, wordRead}
+use Rattle.meaning.proofs.Homes.{between-in}
+use Rattle.meaning.proofs.Gates.{missing-left, missing-unseen}
+use Rattle.meaning.proofs.Aims.{unaimed-left, named-here, named-low, named-high}
+use Rattle.meaning.proofs.After.{records-length, cell-present, slot-cell}
+use Rattle.writes.specs.Touched.{touched}
 use Rattle.words.specs.Part.{shownAt, gathered, storedAt, stored}
-use Rattle.spans.specs.Span.{valid, frameOf, startOf, endOf, maskOf}
-use Rattle.spans.proofs.Masks.{mask-bit}
-use Rattle.homes.proofs.Ranges.{range-gap}
-use Rattle.spans.proofs.Spans.{Spanned, spanned, missed, other, past-span}
-use Rattle.engine.proofs.Facts.{shape-fits, table-length}
-use Rattle.engine.proofs.Ruled.{Bytes, ruled-same, cell-here}
+use Rattle.spans.specs.declared.Span.{Span}
+use Rattle.spans.proofs.Spanned.{Spanned}
+use Rattle.engine.specs.Bank.{part, wordOf, readIn, writtenIn}
+use Rattle.engine.proofs.Banks.{after, same-slot, number-at}
 
--- the word of an access at a place, as the loops take it
-abbrev pub wordAt : Shape → Tables → Side → Family → Place → Word
-wordAt s t side f p = record { side = side; family = f; first = first p; implemented = maskOf s t p }
+intid-from : (f : Frame) (m x : ℕ) → intid (interrupt f (m + x)) - m ≡ x
+intid-from Dist m x = omega arith
+intid-from Redist m x = omega arith
 
-module _ (s : Shape) (t : Tables) (well : wellFormed s t ≡ true) (side : Side) (f : Family) (p : Place) (ok : valid p ≡ true) where
-  span : Spanned p (startOf p) (endOf p) (frameOf p)
-  span = spanned p ok
+in-own-frame : (f : Frame) (m : ℕ) → inFrame f (interrupt f m) ≡ true
+in-own-frame Dist m = refl
+in-own-frame Redist m = refl
 
-  xs : List ℕ
-  xs = recordsOf (frameOf p) t
+intid-of : (f : Frame) (m : ℕ) → intid (interrupt f m) ≡ m
+intid-of Dist m = refl
+intid-of Redist m = refl
 
-  -- record x of the part, which is the interrupt m
-  stored-rule : (v x m byte : ℕ) → m ≡ first p + x → names p m ≡ true → x < endOf p - startOf p
-      → storedAt (wordAt s t side f p) v x byte ≡ encode (wordWritten side f p v m (decode (implemented s t m) byte))
-  unfolding storedAt wordWritten
-  stored-rule v x m byte e n l =
-      let there : m - first p ≡ x = omega arith in
-      ap encode
-      (ap₂ (λ (b : Bool) (k : ℕ). touched side f (digitAt (digitBits f) x v) k (decode b byte)) (mask-bit s (shape-fits s t well) t p ok x l ∙ ap (implemented s t) (sym e)) (sym e)
-      ∙ (ap (λ (k : ℕ). touched side f (digitAt (digitBits f) k v) m (decode (implemented s t m) byte)) (sym there)
-      ∙ sym (gated-true (names p m) (touched side f (digitAt (digitBits f) (m - first p) v) m (decode (implemented s t m) byte)) (decode (implemented s t m) byte) n)))
+-- a window names the interrupts from its first on
+window-names : (w : Window) (x : ℕ) → x < w .count → names w (interrupt (w .frame) (w .first + x)) ≡ true
+unfolding names
+window-names w x l =
+    both _ _ (in-own-frame (w .frame) (w .first + x))
+    (ap (between (w .first) (w .first + w .count)) (intid-of (w .frame) (w .first + x))
+    ∙ between-in (w .first) (w .first + w .count) (w .first + x) (omega arith) (omega arith))
 
-  unnamed : (v m byte : ℕ) → byte < 256 → names p m ≡ false → encode (wordWritten side f p v m (decode (implemented s t m) byte)) ≡ byte
-  unfolding wordWritten
-  unnamed v m byte small n =
-      ap encode (gated-false (names p m) (touched side f (digitAt (digitBits f) (m - first p) v) m (decode (implemented s t m) byte)) (decode (implemented s t m) byte) n)
-      ∙ encode-decode (implemented s t m) byte small
+module _ (s : Shape) (t : Tables) (fit : lengthsFit t ≡ true) (side : Side) (w : Window) (p : Span)
+    (sp : Spanned s t (w .frame) (w .first) (w .count) p) where
+  abbrev xs : List ℕ
+  xs = recordsOf (w .frame) t
 
-  -- THE PART of the table behind the word, written and put back, is the rule on the whole table
-  pub part-ruled : (v : ℕ) → Bytes (recordsOf (frameOf p) t)
-      → take (startOf p) (recordsOf (frameOf p) t)
-      ++ (stored (wordAt s t side f p) v (take (endOf p - startOf p) (drop (startOf p) (recordsOf (frameOf p) t)))
-      ++ drop (endOf p - startOf p) (drop (startOf p) (recordsOf (frameOf p) t)))
-      ≡ ruled s t (wordWritten side f p v) (frameOf p)
-  unfolding stored ruled xs span
-  part-ruled v small =
-      let size = table-length s t well (frameOf p) in
-      let sp = spanned p ok in
-      mapFrom-part (λ k byte. encode (wordWritten side f p v (intidOf (frameOf p) k) (decode (implemented s t (intidOf (frameOf p) k)) byte))) (storedAt (wordAt s t side f p) v) (recordsOf (frameOf p) t)
-      (startOf p) (endOf p) (sp .ordered) (let i = sp .inside in omega arith)
-      (λ k a b. stored-rule v (k - startOf p) (intidOf (frameOf p) k) (getD (recordsOf (frameOf p) t) k 0) (sp .here k a b) (sp .hits k (let i = sp .inside in omega arith) ∙ between-in (startOf p) (endOf p) k a b) (omega arith))
-      (λ k l o. unnamed v (intidOf (frameOf p) k) (getD (recordsOf (frameOf p) t) k 0) (small k) (sp .hits k (omega arith) ∙ outside k o))
-    where
-      outside : (k : ℕ) → (k < startOf p) ⊎ (endOf p ≤ k) → between (startOf p) (endOf p) k ≡ false
-      outside k (inl u) = between-below (startOf p) (endOf p) k u
-      outside k (inr u) = between-above (startOf p) (endOf p) k (let o = span .ordered in omega arith) u
+  abbrev pub at : ℕ → Interrupt
+  at x = interrupt (w .frame) (w .first + x)
 
-  -- and the other table is left
-  pub other-ruled : (v : ℕ) → Bytes (recordsOf (other (frameOf p)) t) → ruled s t (wordWritten side f p v) (other (frameOf p)) ≡ recordsOf (other (frameOf p)) t
-  unfolding wordWritten
-  other-ruled v small =
-      let size = table-length s t well (other (frameOf p)) in
-      ruled-same s t (wordWritten side f p v) (other (frameOf p)) small
-      (λ k l c. gated-false (names p (intidOf (other (frameOf p)) k)) _ c (missed p ok k (omega arith)))
+  abbrev kind : Kind
+  kind = kindOf (w .family)
 
-  -- what the loop shows of record x is what the rule shows of its interrupt
-  shown-rule : (x : ℕ) → x < endOf p - startOf p
-      → shownAt (wordAt s t side f p) x (getD (take (endOf p - startOf p) (drop (startOf p) (recordsOf (frameOf p) t))) x 0) ≡ visible side f (first p + x) (cellOf s t (first p + x))
-  unfolding shownAt span
-  shown-rule x l =
-      let sp = spanned p ok in
-      let k = startOf p + x in
-      let m : intidOf (frameOf p) k ≡ first p + x = sp .here k (omega arith) (omega arith) ∙ (let z : k - startOf p ≡ x = omega arith in ap (λ (n : ℕ). first p + n) z) in
-      let h = slot-home (frameOf p) k (let i = sp .inside in omega arith) in
-      ap₂ (λ (b : Bool) (byte : ℕ). visible side f (first p + x) (decode b byte)) (mask-bit s (shape-fits s t well) t p ok x l)
-      (getD-take (endOf p - startOf p) (drop (startOf p) (recordsOf (frameOf p) t)) x 0 l ∙ getD-drop (startOf p) (recordsOf (frameOf p) t) x 0)
-      ∙ ap (visible side f (first p + x)) (sym (cell-here s t (first p + x) (frameOf p) k (h .0) (ap homeOf (sym m) ∙ h .1)))
+  abbrev bits : ℕ
+  bits = bitsOf (w .family)
 
-  past-missing : (x : ℕ) → (1020 ≤ first p + x) × (first p + x < 1056) → visible side f (first p + x) (cellOf s t (first p + x)) ≡ 0
-  unfolding cellOf implemented decode
-  past-missing x h =
-      missing-unseen side f (first p + x) (cellOf s t (first p + x))
-      (ap (λ (b : Bool). b && presentAt t ((first p + x) % 32) (homeOf (first p + x))) (range-gap s (first p + x) (h .0) (h .1)))
+  -- slot x of the span: its interrupt's cell
+  cell-in : (x : ℕ) → x < p .end - p .start → cellOf s t (at x) ≡ decode (bitAt (p .implemented) x) (getD xs (p .start + x) 0)
+  cell-in x l =
+      let i = sp .inside in
+      ap (cellOf s t) (sym (sp .here x l))
+      ∙ (slot-cell s t (w .frame) (p .start + x) (omega arith)
+      ∙ ap (λ (b : Bool). decode b (getD xs (p .start + x) 0)) (ap (implemented s t) (sp .here x l) ∙ sp .present x l))
 
-  -- THE WORD that the loop gathers is the one that a read shows
-  pub gathered-read : gathered (wordAt s t side f p) (take (endOf p - startOf p) (drop (startOf p) (recordsOf (frameOf p) t))) ≡ wordRead side f p (cellOf s t)
-  unfolding gathered wordRead
-  gathered-read =
-      let sp = spanned p ok in
-      let size = table-length s t well (frameOf p) in
-      let part = take (endOf p - startOf p) (drop (startOf p) (recordsOf (frameOf p) t)) in
-      let long : length part ≡ endOf p - startOf p = length-take (endOf p - startOf p) (drop (startOf p) (recordsOf (frameOf p) t)) ∙ (let z = length-drop (startOf p) (recordsOf (frameOf p) t) in let i = sp .inside in omega arith) in
-      let all : count p ≡ (endOf p - startOf p) + (count p - (endOf p - startOf p)) = (let q = sp .short in omega arith) in
-      ap (λ (n : ℕ). row (digitBits f) n (λ x. shownAt (wordAt s t side f p) x (getD part x 0))) long
-      ∙ (row-same (digitBits f) (endOf p - startOf p) (λ x. shownAt (wordAt s t side f p) x (getD part x 0)) (λ x. visible side f (first p + x) (cellOf s t (first p + x))) shown-rule
-      ∙ (sym (row-cut (digitBits f) (count p - (endOf p - startOf p)) (endOf p - startOf p) (λ x. visible side f (first p + x) (cellOf s t (first p + x))) (λ x l u. past-missing x (past-span p ok x (omega arith) l)))
-      ∙ ap (λ (n : ℕ). row (digitBits f) n (λ x. visible side f (first p + x) (cellOf s t (first p + x)))) (sym all)))
+  -- the rule at an interrupt that the window names
+  at-named : (v x : ℕ) (c : Cell) → x < w .count → performed s (write side w v) (at x) c ≡ touched s side kind (digitAt bits x v) (at x) c
+  unfolding performed aims admits effect touched
+  at-named v x c l =
+      ap₂ (λ (b : Bool) (y : ℕ). cond (b && reaches s side Write kind (at x) c) (update s side kind (digitAt bits y v) (at x) c) c)
+      (window-names w x l) (intid-from (w .frame) (w .first) x)
+
+  -- WRITES, inside the span
+  inner : (v k : ℕ) → p .start ≤ k → k < p .end
+      → storedAt s at (wordOf side w p) v (k - p .start) (getD xs k 0)
+      ≡ encode (performed s (write side w v) (interruptAt (w .frame) k) (cellOf s t (interruptAt (w .frame) k)))
+  unfolding storedAt
+  inner v k a b =
+      let x : ℕ = k - p .start in
+      let l : x < p .end - p .start = omega arith in
+      let e : p .start + x ≡ k = omega arith in
+      let u = sp .short in
+      ap (λ (j : ℕ). encode (touched s side kind (digitAt bits x v) (at x) (decode (bitAt (p .implemented) x) (getD xs j 0)))) (sym e)
+      ∙ (ap (λ (c : Cell). encode (touched s side kind (digitAt bits x v) (at x) c)) (sym (cell-in x l))
+      ∙ (ap encode (sym (at-named v x (cellOf s t (at x)) (omega arith)))
+      ∙ (ap (λ (i : Interrupt). encode (performed s (write side w v) i (cellOf s t i))) (sym (sp .here x l))
+      ∙ ap (λ (j : ℕ). encode (performed s (write side w v) (interruptAt (w .frame) j) (cellOf s t (interruptAt (w .frame) j)))) e)))
+
+  -- and outside: a slot of no interrupt that the window names, or of a missing one
+  module _ (v k : ℕ) (l : k < slots (w .frame)) (o : (k < p .start) ⊎ (p .end ≤ k)) where
+    abbrev J : Interrupt
+    J = interruptAt (w .frame) k
+
+    apart : (x : ℕ) → x < p .end - p .start → (k < p .start) ⊎ (p .end ≤ k) → p .start + x ≡ k → ⊥
+    apart x a (inl z) e = omega arith
+    apart x a (inr z) e = omega arith
+
+    gone : (x : ℕ) → x < w .count → J ≡ at x → Dec (x < p .end - p .start) → implemented s t J ≡ false
+    gone x a e (yes z) =
+        let i = sp .inside in
+        let q = sp .ordered in
+        absurd (apart x z o (same-slot (w .frame) (p .start + x) k (omega arith) l (sp .here x z ∙ sym e)))
+    gone x a e (no z) = ap (implemented s t) e ∙ sp .missing x (omega arith) a
+
+    named-missing : names w J ≡ true → implemented s t J ≡ false
+    named-missing e =
+        let lo = named-low w J e in
+        let hi = named-high w J e in
+        let x : ℕ = intid J - w .first in
+        let z : intid J ≡ w .first + x = omega arith in
+        gone x (omega arith) (sym (named-here w J e) ∙ ap (interrupt (w .frame)) z) (decLt x (p .end - p .start))
+
+    outer : performed s (write side w v) J (cellOf s t J) ≡ cellOf s t J
+    unfolding aims
+    outer = by (names w J) refl
+      where
+        by : (b : Bool) → names w J ≡ b → performed s (write side w v) J (cellOf s t J) ≡ cellOf s t J
+        by false e = unaimed-left s (write side w v) J (cellOf s t J) e
+        by true e = missing-left s J (cellOf s t J) (write side w v) refl (cell-present s t J ∙ named-missing e)
+
+  pub write-meant : (v : ℕ) → writtenIn s at side w v p xs ≡ after s (write side w v) t (w .frame)
+  unfolding writtenIn stored column
+  write-meant v =
+      let size = records-length t fit (w .frame) in
+      mapFrom-part (λ k old. encode (performed s (write side w v) (interruptAt (w .frame) k) (cellOf s t (interruptAt (w .frame) k))))
+      (storedAt s at (wordOf side w p) v) xs (p .start) (p .end) (sp .ordered) (let i = sp .inside in omega arith) (inner v)
+      (λ k l o. let u : k < slots (w .frame) = rw size at l in ap encode (outer v k u o) ∙ number-at s t fit (w .frame) k u)
+
+  -- READS
+  abbrev shown : ℕ → ℕ
+  shown x = visible s side kind (at x) (cellOf s t (at x))
+
+  shown-in : (x : ℕ) → x < p .end - p .start → shownAt s at (wordOf side w p) x (getD (part p xs) x 0) ≡ shown x
+  unfolding shownAt
+  shown-in x l =
+      ap (λ (n : ℕ). visible s side kind (at x) (decode (bitAt (p .implemented) x) n))
+      (getD-take (p .end - p .start) (drop (p .start) xs) x 0 l ∙ getD-drop (p .start) xs x 0)
+      ∙ ap (visible s side kind (at x)) (sym (cell-in x l))
+
+  unseen : (x : ℕ) → p .end - p .start ≤ x → x < w .count → shown x ≡ 0
+  unseen x l u = missing-unseen s (at x) (cellOf s t (at x)) side kind (cell-present s t (at x) ∙ sp .missing x l u)
+
+  pub read-meant : readIn s at side w p xs ≡ wordRead s side w (cellOf s t)
+  unfolding readIn gathered wordRead
+  read-meant =
+      let size = records-length t fit (w .frame) in
+      let n : ℕ = p .end - p .start in
+      let cut = length-drop (p .start) xs in
+      let i = sp .inside in
+      let q = sp .short in
+      let long : length (part p xs) ≡ n = length-take n (drop (p .start) xs) ∙ omega arith in
+      let whole : w .count ≡ n + (w .count - n) = omega arith in
+      ap (λ (k : ℕ). row bits k (λ x. shownAt s at (wordOf side w p) x (getD (part p xs) x 0))) long
+      ∙ (row-same bits n (λ x. shownAt s at (wordOf side w p) x (getD (part p xs) x 0)) shown shown-in
+      ∙ (sym (row-cut bits (w .count - n) n shown (λ x l u. unseen x l (omega arith)))
+      ∙ ap (λ (k : ℕ). row bits k shown) (sym whole)))

@@ -1,36 +1,62 @@
-// The events on one interrupt: wire, activate, deactivate.
+// The events on one interrupt of the bank: wire, activate, deactivate.
 ghost use mathlib.Core.Path.{_≡_};
-ghost use mathlib.Core.Bool.{true};
-ghost use Rattle.meaning.specs.Layout.{lent, wellFormed};
-ghost use Rattle.happening.specs.Event.{stepOf};
-ghost use Rattle.engine.specs.Stepped.{Stepped};
-use happening::Event;
-use happening::happen_at;
-use homes::locate;
+ghost use Prim.Native.Nat.{_<_};
+ghost use lib.Dec.{ltb};
+ghost use lib.ListN.{length, getD, set};
+ghost use Rattle.types.specs.declared.Shape.{Shape as Form};
+ghost use Rattle.meaning.specs.Interrupt.{Interrupt, sgi};
+ghost use Rattle.meaning.specs.Cell.{decode, encode};
+ghost use Rattle.meaning.specs.Rule.{eventAnswer};
+ghost use Rattle.spans.specs.Span.{spanOf};
+ghost use Rattle.engine.specs.Bank.{Bank, eventful, Happened};
+use events::answer_to;
+use events::happened;
+use spans::span_of;
 use types::Answer;
+use types::Event;
 use types::Frame;
-use types::Home;
 use types::Refusal;
 use types::Shape;
 
+// The event at a slot; a refused one stores nothing.
+fn happen_at(records: &mut [u8], at: usize, implemented: bool, soft: bool, event: Event) -> Answer
+    requires { ⌜ at < length (now records) ⌝ }
+    ensures { λ a. ⌜
+        ((s : Form) (i : Interrupt) → sgi i ≡ soft
+        → (a ≡ eventAnswer s event i (decode implemented (getD (now (records .entry)) at 0)))
+        × (now (records .exit)
+        ≡ set (now (records .entry)) at (encode (eventful s event i (decode implemented (getD (now (records .entry)) at 0))))))
+        ⌝ }
+{
+    let r = records[at];
+    let answer = answer_to(event, implemented, soft, r);
+    let Answer::Done(_) = answer else {
+        return answer;
+    };
+    records[at] = happened(event, soft, r);
+    answer
+}
+
+// The event on the INTID m of the bank; refusal 7 where it has no such interrupt.
 pub fn happen(
-    dist: &mut [u8],
-    redist: &mut [u8],
-    dist_presence: &[u32],
-    redist_presence: &[u32],
+    records: &mut [u8],
+    presence: &[u32],
     shape: Shape,
+    frame: Frame,
     m: u32,
     event: Event,
 ) -> Answer
-    requires { ⌜ wellFormed shape (lent (now dist) (now redist) (now «dist_presence») (now «redist_presence»)) ≡ true ⌝ }
-    ensures { λ a. ⌜ Stepped shape (stepOf event m) (lent (now (dist .entry)) (now (redist .entry)) (now («dist_presence» .entry)) (now («redist_presence» .entry))) a (now (dist .exit)) (now (redist .exit)) ⌝ }
+    requires { ⌜ Bank shape frame (now records) (now presence) ⌝ }
+    ensures { λ a. ⌜
+        ((i : Interrupt) → sgi i ≡ ltb m 16
+        → Happened shape event i (spanOf shape (now (presence .entry)) frame m 1) (now (records .entry)) a (now (records .exit)))
+        ⌝ }
 {
-    let home = locate(dist_presence, redist_presence, shape, m);
-    let Home::Slot(frame, slot, _) = home else {
-        return Answer::Refused(Refusal::Intid);
-    };
-    match frame {
-        Frame::Dist => happen_at(dist, slot, m, event),
-        Frame::Redist => happen_at(redist, slot, m, event),
+    let span = span_of(presence, shape, frame, m, 1);
+    let start = span.start;
+    let implemented = span.implemented % 2 == 1;
+    if start < span.end {
+        return happen_at(records, start, implemented, m < 16, event);
     }
+    Answer::Refused(Refusal::Intid)
 }

@@ -1,4 +1,6 @@
-// What a step does to well-formed tables, and what it is answered. The tables are lent; presence words are only read.
+// What a step does to a bank, and what it is answered. A bank is the records of one frame, which are lent, and its presence words, which
+// are only read.
+pub mod dispatch;
 pub mod event;
 pub mod message;
 pub mod reset;

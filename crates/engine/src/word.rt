@@ -1,34 +1,31 @@
-// A register word: the part of the table that holds its records is lent on to the loops.
+// A register word: the part of the bank that holds its records is lent on to the loops.
 ghost use mathlib.Core.Path.{_≡_};
-ghost use mathlib.Core.Bool.{true};
 ghost use mathlib.Core.List.{[]};
-ghost use Prim.Native.Nat.{_-_, _≤_};
+ghost use Prim.Native.Nat.{ℕ, _-_, _≤_};
 ghost use lib.ListN.{length, take, drop};
-ghost use Rattle.meaning.specs.Layout.{lent, recordsOf, wellFormed, cellOf};
-ghost use Rattle.meaning.specs.Registers.{perWord, count};
-ghost use Rattle.meaning.specs.Rule.{wordWritten};
-ghost use Rattle.meaning.specs.Step.{wordRead};
-ghost use Rattle.spans.specs.Span.{valid};
-ghost use Rattle.engine.specs.Stepped.{Ruled};
+ghost use Rattle.meaning.specs.Interrupt.{Interrupt};
+ghost use Rattle.meaning.specs.Layout.{lent, recordsOf};
+ghost use Rattle.families.specs.Fits.{Fits};
+ghost use Rattle.words.specs.Part.{Numbered};
+ghost use Rattle.engine.specs.Bank.{Bank, windowSpan, readIn, writtenIn};
 use spans::Span;
-use spans::first_of;
-use spans::mask_of;
 use spans::span_of;
-use types::Family;
 use types::Frame;
-use types::Place;
 use types::Shape;
 use types::Side;
+use types::Window;
 use words::Word;
 use words::gather;
 use words::store;
 
 // The records of a span, as a part of whichever table holds them.
-fn part<'a>(dist: &'a [u8], redist: &'a [u8], span: Span) -> &'a [u8]
-    requires { ⌜ (span .start ≤ span .end) × (span .end ≤ length (recordsOf (span .frame) (lent (now dist) (now redist) [] []))) ⌝ }
-    ensures { λ r. ⌜ now r ≡ take (span .end - span .start) (drop (span .start) (recordsOf (span .frame) (lent (now (dist .entry)) (now (redist .entry)) [] []))) ⌝ }
+fn part<'a>(dist: &'a [u8], redist: &'a [u8], frame: Frame, span: Span) -> &'a [u8]
+    requires { ⌜ (span .start ≤ span .end) × (span .end ≤ length (recordsOf frame (lent (now dist) (now redist) [] []))) ⌝ }
+    ensures { λ r. ⌜
+        now r
+        ≡ take (span .end - span .start) (drop (span .start) (recordsOf frame (lent (now (dist .entry)) (now (redist .entry)) [] [])))
+        ⌝ }
 {
-    let frame = span.frame;
     let start = span.start;
     let end = span.end;
     match frame {
@@ -37,62 +34,63 @@ fn part<'a>(dist: &'a [u8], redist: &'a [u8], span: Span) -> &'a [u8]
     }
 }
 
-// What a read of a family's word shows.
+// What a read of a register word shows. `presence` are the presence words of its frame.
 pub fn read_word<'a>(
     dist: &'a [u8],
     redist: &'a [u8],
-    dist_presence: &[u32],
-    redist_presence: &[u32],
+    presence: &[u32],
     shape: Shape,
     side: Side,
-    family: Family,
-    place: Place,
+    window: Window,
 ) -> u32
-    requires { ⌜ wellFormed shape (lent (now dist) (now redist) (now «dist_presence») (now «redist_presence»)) ≡ true ⌝ }
-    requires { ⌜ (valid place ≡ true) × (count place ≤ perWord family) ⌝ }
-    ensures { λ v. ⌜ v ≡ wordRead side family place (cellOf shape (lent (now (dist .entry)) (now (redist .entry)) (now («dist_presence» .entry)) (now («redist_presence» .entry)))) ⌝ }
+    requires { ⌜ Bank shape (window .frame) (recordsOf (window .frame) (lent (now dist) (now redist) [] [])) (now presence) ⌝ }
+    requires { ⌜ Fits window ⌝ }
+    ensures { λ v. ⌜
+        ((at : ℕ → Interrupt) → Numbered (window .count) (window .first) at
+        → v
+        ≡ readIn shape at side window (windowSpan shape (now (presence .entry)) window)
+        (recordsOf (window .frame) (lent (now (dist .entry)) (now (redist .entry)) [] [])))
+        ⌝ }
 {
-    let first = first_of(place);
-    let implemented = mask_of(dist_presence, redist_presence, shape, place);
+    let frame = window.frame;
+    let family = window.family;
+    let span = span_of(presence, shape, frame, window.first, window.count);
     let word = Word {
         side,
         family,
-        first,
-        implemented,
+        first: window.first,
+        implemented: span.implemented,
     };
-    gather(part(dist, redist, span_of(place)), word)
+    gather(part(dist, redist, frame, span), word)
 }
 
-// What a write to a family's word leaves.
+// What a write to a register word leaves in its bank.
 pub fn write_word(
-    dist: &mut [u8],
-    redist: &mut [u8],
-    dist_presence: &[u32],
-    redist_presence: &[u32],
+    records: &mut [u8],
+    presence: &[u32],
     shape: Shape,
     side: Side,
-    family: Family,
-    place: Place,
+    window: Window,
     value: u32,
 )
-    requires { ⌜ wellFormed shape (lent (now dist) (now redist) (now «dist_presence») (now «redist_presence»)) ≡ true ⌝ }
-    requires { ⌜ (valid place ≡ true) × (count place ≤ perWord family) ⌝ }
-    ensures { λ _. ⌜ Ruled shape (lent (now (dist .entry)) (now (redist .entry)) (now («dist_presence» .entry)) (now («redist_presence» .entry))) (wordWritten side family place value) (now (dist .exit)) (now (redist .exit)) ⌝ }
+    requires { ⌜ Bank shape (window .frame) (now records) (now presence) ⌝ }
+    requires { ⌜ Fits window ⌝ }
+    ensures { λ _. ⌜
+        ((at : ℕ → Interrupt) → Numbered (window .count) (window .first) at
+        → now (records .exit)
+        ≡ writtenIn shape at side window value (windowSpan shape (now (presence .entry)) window) (now (records .entry)))
+        ⌝ }
 {
-    let first = first_of(place);
-    let implemented = mask_of(dist_presence, redist_presence, shape, place);
+    let frame = window.frame;
+    let family = window.family;
+    let span = span_of(presence, shape, frame, window.first, window.count);
     let word = Word {
         side,
         family,
-        first,
-        implemented,
+        first: window.first,
+        implemented: span.implemented,
     };
-    let span = span_of(place);
-    let frame = span.frame;
     let start = span.start;
     let end = span.end;
-    match frame {
-        Frame::Dist => store(&mut dist[start..end], word, value),
-        Frame::Redist => store(&mut redist[start..end], word, value),
-    }
+    store(&mut records[start..end], word, value);
 }

@@ -1,4 +1,2 @@
-pub mod Numbers
-pub mod Masks
-pub mod Spans
-pub mod Valid
+pub mod Ranges
+pub mod Spanned

@@ -11,7 +11,10 @@ pub fn shape_fits(shape: Shape) -> bool
 }
 
 pub fn lengths_fit(dist: usize, redist: usize, dist_presence: usize, redist_presence: usize) -> bool
-    ensures { λ r. ⌜ ((t : Tables) → length (t .dist) ≡ dist → length (t .redist) ≡ redist → length (t .distPresence) ≡ «dist_presence» → length (t .redistPresence) ≡ «redist_presence» → r ≡ lengthsFit t) ⌝ }
+    ensures { λ r. ⌜
+        ((t : Tables) → length (t .dist) ≡ dist → length (t .redist) ≡ redist → length (t .distPresence) ≡ «dist_presence»
+        → length (t .redistPresence) ≡ «redist_presence» → r ≡ lengthsFit t)
+        ⌝ }
 {
     (dist == 2012) & ((redist == 96) & ((dist_presence == 63) & (redist_presence == 3)))
 }
@@ -24,7 +27,10 @@ pub fn well_formed(
     dist_presence: usize,
     redist_presence: usize,
 ) -> bool
-    ensures { λ r. ⌜ ((t : Tables) → length (t .dist) ≡ dist → length (t .redist) ≡ redist → length (t .distPresence) ≡ «dist_presence» → length (t .redistPresence) ≡ «redist_presence» → r ≡ wellFormed shape t) ⌝ }
+    ensures { λ r. ⌜
+        ((t : Tables) → length (t .dist) ≡ dist → length (t .redist) ≡ redist → length (t .distPresence) ≡ «dist_presence»
+        → length (t .redistPresence) ≡ «redist_presence» → r ≡ wellFormed shape t)
+        ⌝ }
 {
     shape_fits(shape) & lengths_fit(dist, redist, dist_presence, redist_presence)
 }

@@ -1,21 +1,40 @@
-use mathlib.Core.Path.{refl, sym, _∙_}
+-- `reset` is `stepped`. Two ways out: refusal 1 (returns), and all records 0 (returns-2).
+use mathlib.Core.Path.{_≡_, refl, sym, _∙_}
+use mathlib.Core.Bool.{true}
 use denote.Ref.{now}
 use borrow.Author.Tests.{not-true, not-false}
-use Rattle.meaning.specs.Layout.{lent}
-use Rattle.meaning.specs.Rule.{reset}
-use Rattle.controller.proofs.Outcomes.{ill, well, reset-done}
+use Rattle.meaning.specs.Layout.{Tables, lent, wellFormed}
+use Rattle.meaning.specs.Rule as step
+use Rattle.controller.proofs.Outcomes.{ill, all-cleared}
 use borrow.Author.Needs.{needs}
 use Rattle.controller.proofs.reset.Statement.{statement}
 use Rattle.controller.proofs.reset.Tie as tie
+
+abbrev T : tie.Start → Tables
+T e = lent (now (e .args .dist)) (now (e .args .redist)) (now (e .args .dist-presence)) (now (e .args .redist-presence))
+
+-- once refusal 1 is judged
+abbrev entry : tie.After-well-formed → tie.Start
+entry c = c .before .before .before .before .before
+
+-- once the Distributor is cleared
+abbrev judged : tie.After-clear → tie.After-well-formed
+judged c = c .before .before .before
+
+well : (c : tie.After-clear) → wellFormed (entry (judged c) .args .shape) (T (entry (judged c))) ≡ true
+well c =
+    let w = judged c in
+    sym (w .well-formed .ensures (T (entry w)) refl refl refl refl) ∙ not-false (w .well-formed .result) (c .before .before .if1 .left)
 
 well-formed-requires : tie.Need-well-formed-requires
 well-formed-requires c κs = search needs
 
 returns : tie.Need-returns
 returns c =
-    let a = c .before .before .before .before .before .before .args in
-    let t = lent (now (a .dist)) (now (a .redist)) (now (a .dist-presence)) (now (a .redist-presence)) in
-    ill (a .shape) reset t (sym (c .before .well-formed .ensures t refl refl refl refl) ∙ not-true (c .before .well-formed .result) (c .if1 .taken))
+    let w = c .before in
+    let e = entry w in
+    ill (e .args .shape) step.reset (T e)
+    (sym (w .well-formed .ensures (T e) refl refl refl refl) ∙ not-true (w .well-formed .result) (c .if1 .taken))
 
 clear-requires : tie.Need-clear-requires
 clear-requires c κs = search needs
@@ -31,9 +50,9 @@ same-length-2 c = search needs
 
 returns-2 : tie.Need-returns-2
 returns-2 c =
-    let a = c .before .before .before .before .before .before .before .before .before .before .before .before .before .before .args in
-    let t = lent (now (a .dist)) (now (a .redist)) (now (a .dist-presence)) (now (a .redist-presence)) in
-    well (a .shape) reset t (sym (c .before .before .before .before .before .before .before .before .before .well-formed .ensures t refl refl refl refl) ∙ not-false (c .before .before .before .before .before .before .before .before .before .well-formed .result) (c .before .before .before .before .before .before .before .before .if1 .left)) _ _ _ (reset-done (a .shape) t _ _ (c .before .before .before .before .before .before .clear .ensures) (c .before .before .clear2 .ensures))
+    let k = c .before .before .before .before .before .before in
+    let e = entry (judged k) in
+    all-cleared (e .args .shape) (T e) (well k) _ _ (k .clear .ensures) (c .before .before .clear2 .ensures)
 
 pub reset-spec : {M : Type 1} → statement M
 reset-spec =

@@ -1,9 +1,10 @@
+-- `clear` leaves a 0 at every place: the loop maps the records in place, front to back.
 use borrow.Author.Needs.{needs}
 use Prim.Native.Nat.{_-_, _≤_}
 use native.Mathlib.Omega.{arith}
 use lib.ListN.{length}
 use Rattle.lists.proofs.Loops.{Mapped, mapped-none, mapped-more, mapped-all}
-use Rattle.engine.specs.Stepped.{zeroed}
+use Rattle.engine.specs.Bank.{zeroed}
 use mathlib.Core.Path.{refl}
 use Rattle.engine.proofs.reset.clear.Statement.{statement}
 use Rattle.engine.proofs.reset.clear.Tie as tie
@@ -27,7 +28,8 @@ loop-less : tie.Need-loop-less Inv-loop μ-loop
 loop-less c = search needs
 
 loop-again : tie.Need-loop-again Inv-loop μ-loop
-loop-again c = (omega arith, mapped-more zeroed _ _ _ _ (c .before .loop .inv .1) (let s = c .before .loop .inv .1 .same in omega arith) refl)
+loop-again c =
+    let h = c .before .loop .inv .1 in (omega arith, mapped-more zeroed _ _ _ _ h (let s = h .same in omega arith) refl)
 
 same-length : tie.Need-same-length Inv-loop μ-loop
 same-length c = c .before .loop .inv .1 .same

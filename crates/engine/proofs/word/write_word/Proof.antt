@@ -1,132 +1,69 @@
-use mathlib.Core.Path.{sym, ap, _∙_}
+-- `write_word` lends the part of its bank that the window's span has to the loop, and has the rest back as it was.
+use mathlib.Core.Path.{_≡_, ap, _∙_}
+use mathlib.Core.List.{List, _++_}
+use Prim.Native.Nat.{ℕ, _-_}
 use denote.Ref.{now}
-use lib.ListN.{length}
-use Rattle.meaning.specs.Layout.{lent}
+use lib.ListN.{take, drop}
+use Rattle.types.specs.declared.Window.{Window}
 use Rattle.spans.specs.declared.Span.{Span}
-use Rattle.engine.proofs.Facts.{presence-fits}
-use Rattle.engine.proofs.Uses.{word-fits, write-dist, write-redist, span-inside, part-length}
+use Rattle.spans.proofs.Spanned.{Bounded}
+use Rattle.engine.specs.Bank.{writtenIn}
+use Rattle.engine.proofs.Uses.{asked, end-inside, fewer, fitting}
 use borrow.Author.Needs.{needs}
 use Rattle.engine.proofs.word.write_word.Statement.{statement}
 use Rattle.engine.proofs.word.write_word.Tie as tie
 
-first-of-requires : tie.Need-first-of-requires
-first-of-requires c κs = c .before .before .before .before .pre .1 .0
+-- once the span is known
+abbrev entry : tie.After-span-of → tie.Start
+entry c = c .before .before .before
 
-mask-of-requires : tie.Need-mask-of-requires
-mask-of-requires c κs =
-    let a = c .before .before .before .before .before .args in
-    let b = c .before .before .before .before .before in
-    (presence-fits (a .shape) (lent (now (a .dist)) (now (a .redist)) (now (a .dist-presence)) (now (a .redist-presence))) (b .pre .0), b .pre .1 .0)
+abbrev P : tie.After-span-of → Span
+P c = c .span-of .result
+
+abbrev W : tie.After-span-of → Window
+W c = entry c .args .window
+
+abbrev X : tie.After-span-of → List ℕ
+X c = now (entry c .args .records)
+
+bounds : (c : tie.After-span-of) → Bounded (W c .frame) (W c .count) (P c)
+bounds c =
+    let e = entry c in
+    asked (e .args .shape) (W c .frame) (X c) (now (e .args .presence)) (W c .first) (W c .count) (P c) (e .pre .0) (e .pre .1 .block)
+    (c .span-of .ensures)
 
 span-of-requires : tie.Need-span-of-requires
-span-of-requires c κs = c .before .before .before .before .before .before .pre .1 .0
-
-enum-told : tie.Need-enum-told
-enum-told c = search needs
+span-of-requires c κs = search needs
 
 sub-store : tie.Need-sub-store
-sub-store c =
-    let a = c .before .before .before .before .before .before .before .before .before .args in
-    let b = c .before .before .before .before .before .before .before .before .before in
-    let h = span-inside (a .shape) (lent (now (a .dist)) (now (a .redist)) (now (a .dist-presence)) (now (a .redist-presence))) (b .pre .0) (a .place) (b .pre .1 .0) in rw (c .before .before .span-of .ensures) (h .0)
+sub-store c = bounds c .ordered
 
 part-store-start : tie.Need-part-store-start
-part-store-start c =
-    let a = c .before .before .before .before .before .before .before .before .before .args in
-    let b = c .before .before .before .before .before .before .before .before .before in
-    let h = span-inside (a .shape) (lent (now (a .dist)) (now (a .redist)) (now (a .dist-presence)) (now (a .redist-presence))) (b .pre .0) (a .place) (b .pre .1 .0) in rw (c .before .before .span-of .ensures) (h .0)
+part-store-start c = bounds c .ordered
 
 part-store-end : tie.Need-part-store-end
 part-store-end c =
-    let a = c .before .before .before .before .before .before .before .before .before .args in
-    let b = c .before .before .before .before .before .before .before .before .before in
-    let h = span-inside (a .shape) (lent (now (a .dist)) (now (a .redist)) (now (a .dist-presence)) (now (a .redist-presence))) (b .pre .0) (a .place) (b .pre .1 .0) in rw (c .before .before .span-of .ensures) (rw (sym (ap (λ (z : Span). z .frame) (c .before .before .span-of .ensures)) ∙ c .enum-told .given .1) at (h .1))
+    let e = entry c in
+    end-inside (e .args .shape) (W c .frame) (X c) (now (e .args .presence)) (W c .count) (P c) (e .pre .0) (bounds c)
 
 store-requires : tie.Need-store-requires
 store-requires c κs =
-    let a = c .before .before .before .before .before .before .before .before .before .before .args in
-    let b = c .before .before .before .before .before .before .before .before .before .before in
-    let b2 = c .before .before .before .before .before in
-    let b3 = c .before .before .before .before in
-    rw (c .before .before .before .span-of .ensures) (word-fits (a .shape) (lent (now (a .dist)) (now (a .redist)) (now (a .dist-presence)) (now (a .redist-presence))) (b .pre .0) (a .side) (a .family) (a .place) (b .pre .1 .0) (b2 .first-of .result) (b3 .mask-of .result) (b2 .first-of .ensures) (b3 .mask-of .ensures) (b .pre .1 .1) _ (part-length _ _ _))
-
-enum-told-2 : tie.Need-enum-told-2
-enum-told-2 c = search needs
-
-sub-store-2 : tie.Need-sub-store-2
-sub-store-2 c =
-    let a = c .before .before .before .before .before .before .before .before .before .args in
-    let b = c .before .before .before .before .before .before .before .before .before in
-    let h = span-inside (a .shape) (lent (now (a .dist)) (now (a .redist)) (now (a .dist-presence)) (now (a .redist-presence))) (b .pre .0) (a .place) (b .pre .1 .0) in rw (c .before .before .span-of .ensures) (h .0)
-
-part-store-start-2 : tie.Need-part-store-start-2
-part-store-start-2 c =
-    let a = c .before .before .before .before .before .before .before .before .before .args in
-    let b = c .before .before .before .before .before .before .before .before .before in
-    let h = span-inside (a .shape) (lent (now (a .dist)) (now (a .redist)) (now (a .dist-presence)) (now (a .redist-presence))) (b .pre .0) (a .place) (b .pre .1 .0) in rw (c .before .before .span-of .ensures) (h .0)
-
-part-store-end-2 : tie.Need-part-store-end-2
-part-store-end-2 c =
-    let a = c .before .before .before .before .before .before .before .before .before .args in
-    let b = c .before .before .before .before .before .before .before .before .before in
-    let h = span-inside (a .shape) (lent (now (a .dist)) (now (a .redist)) (now (a .dist-presence)) (now (a .redist-presence))) (b .pre .0) (a .place) (b .pre .1 .0) in rw (c .before .before .span-of .ensures) (rw (sym (ap (λ (z : Span). z .frame) (c .before .before .span-of .ensures)) ∙ c .enum-told2 .given .1) at (h .1))
-
-store-requires-2 : tie.Need-store-requires-2
-store-requires-2 c κs =
-    let a = c .before .before .before .before .before .before .before .before .before .before .args in
-    let b = c .before .before .before .before .before .before .before .before .before .before in
-    let b2 = c .before .before .before .before .before in
-    let b3 = c .before .before .before .before in
-    rw (c .before .before .before .span-of .ensures) (word-fits (a .shape) (lent (now (a .dist)) (now (a .redist)) (now (a .dist-presence)) (now (a .redist-presence))) (b .pre .0) (a .side) (a .family) (a .place) (b .pre .1 .0) (b2 .first-of .result) (b3 .mask-of .result) (b2 .first-of .ensures) (b3 .mask-of .ensures) (b .pre .1 .1) _ (part-length _ _ _))
+    let s = c .before in fitting (W s) (entry s .pre .1) (entry s .args .side) (P s) (X s) (bounds s .short)
 
 same-length : tie.Need-same-length
 same-length c = search needs
 
 returns : tie.Need-returns
-returns c =
-    let found = c .before .before .before .before .before .before in
-    let first = found .before .before .first-of in
-    let mask = found .before .mask-of in
-    let s = c .before .before .before .before .before .before .before .before .before .before .before in
-    let e = s .before .before in
-    let a = e .args in
-    rw (found .span-of .ensures) (write-dist (a .shape) (lent (now (a .dist)) (now (a .redist)) (now (a .dist-presence)) (now (a .redist-presence))) (e .pre .0) (a .side) (a .family) (a .place) (e .pre .1 .0) (first .result) (mask .result) (first .ensures) (mask .ensures)
-    (sym (ap (λ (z : Span). z .frame) (found .span-of .ensures)) ∙ c .before .before .before .before .enum-told .given .1) (a .value)
-    (λ k. s .before .slice-known .given k .fits) (λ k. s .slice-known2 .given k .fits) _ (rw (found .span-of .ensures) at (c .before .before .store .ensures)))
-
-same-length-2 : tie.Need-same-length-2
-same-length-2 c = search needs
-
-returns-2 : tie.Need-returns-2
-returns-2 c =
-    let found = c .before .before .before .before .before .before in
-    let first = found .before .before .first-of in
-    let mask = found .before .mask-of in
-    let s = c .before .before .before .before .before .before .before .before .before .before .before in
-    let e = s .before .before in
-    let a = e .args in
-    rw (found .span-of .ensures) (write-redist (a .shape) (lent (now (a .dist)) (now (a .redist)) (now (a .dist-presence)) (now (a .redist-presence))) (e .pre .0) (a .side) (a .family) (a .place) (e .pre .1 .0) (first .result) (mask .result) (first .ensures) (mask .ensures)
-    (sym (ap (λ (z : Span). z .frame) (found .span-of .ensures)) ∙ c .before .before .before .before .enum-told2 .given .1) (a .value)
-    (λ k. s .before .slice-known .given k .fits) (λ k. s .slice-known2 .given k .fits) _ (rw (found .span-of .ensures) at (c .before .before .store2 .ensures)))
+unfolding writtenIn
+returns c at n =
+    let s = c .before .before .before .before in
+    let a = entry s .args in
+    let p = P s in
+    ap (λ (ys : List ℕ). take (p .start) (X s) ++ (ys ++ drop (p .end - p .start) (drop (p .start) (X s))))
+    (c .before .before .store .ensures (a .shape) at (fewer (W s) p (X s) at (bounds s .short) n))
+    ∙ ap (λ (q : Span). writtenIn (a .shape) at (a .side) (W s) (a .value) q (X s)) (s .span-of .ensures)
 
 pub write-word-spec : {M : Type 1} → statement M
 write-word-spec =
     tie.close
-    (tie.spec
-    first-of-requires
-    mask-of-requires
-    span-of-requires
-    enum-told
-    sub-store
-    part-store-start
-    part-store-end
-    store-requires
-    enum-told-2
-    sub-store-2
-    part-store-start-2
-    part-store-end-2
-    store-requires-2
-    same-length
-    returns
-    same-length-2
-    returns-2)
+    (tie.spec span-of-requires sub-store part-store-start part-store-end store-requires same-length returns)
