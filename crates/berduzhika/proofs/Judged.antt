@@ -12,7 +12,8 @@ use Rattle.numbers.specs.Code.{codeOf, shut}
 use Rattle.berduzhika.specs.Told.{Told, told, judged}
 
 -- Before the gate. `tested` is what the code found of the request's numbers.
-pub kept : (named sound : Bool) (s : Shape) (q : Step) (t : Tables) (n : ℕ) (tested : Bool) → tested ≡ named → n ≡ shut tested sound → (n ≡ 0 → ⊥)
+pub kept : (named sound : Bool) (s : Shape) (q : Step) (t : Tables) (n : ℕ) (tested : Bool) → tested ≡ named
+    → n ≡ shut tested sound → (n ≡ 0 → ⊥)
     → _≡_ {A = Told} (record { code = n; tables = t }) (judged named sound s q t)
 unfolding judged shut
 kept named sound s q t n tested same e no-zero = by named sound (e ∙ ap (λ (b : Bool). shut b sound) same)
@@ -23,7 +24,8 @@ kept named sound s q t n tested same e no-zero = by named sound (e ∙ ap (λ (b
     by false y h = ap (λ (k : ℕ). record { code = k; tables = t }) h
 
 -- Behind it: the controller was asked for the shape and the step that the numbers stand for, and its answer was coded.
-pub passed : (named sound : Bool) (s : Shape) (q : Step) (t : Tables) (n : ℕ) (tested : Bool) → tested ≡ named → n ≡ shut tested sound → n ≡ 0
+pub passed : (named sound : Bool) (s : Shape) (q : Step) (t : Tables) (n : ℕ) (tested : Bool) → tested ≡ named
+    → n ≡ shut tested sound → n ≡ 0
     → (s′ : Shape) (q′ : Step) → s′ ≡ s → q′ ≡ q → (code : ℕ) (a : Answer) (after : Tables) → code ≡ codeOf a
     → _≡_ {A = Outcome} (record { answered = a; tables = after }) (stepped s′ q′ t)
     → _≡_ {A = Told} (record { code = code; tables = after }) (judged named sound s q t)

@@ -1,16 +1,17 @@
 -- No number but 2 is the Secure side: one that was forgotten, cut or has stray bits is refused, whatever else is asked.
 use mathlib.Core.Path.{_≡_, refl, sym, ap, _∙_}
-use mathlib.Core.Bool.{Bool, true, false, _&&_}
+use mathlib.Core.Bool.{Bool, true, false, cond, _&&_}
 use Prim.Native.Nat.{ℕ}
 use native.Mathlib.Omega.{arith}
 use lib.Dec.{eqb}
 use borrow.Author.Tests.{eqb-true}
 use Rattle.lists.proofs.Bools.{clash}
+use Rattle.types.specs.declared.Event.the-variants.{Activate, Deactivate}
 use Rattle.types.specs.declared.Side.{Side}
 use Rattle.types.specs.declared.Side.the-variants.{Secure, NonSecure}
 use Rattle.meaning.specs.Layout.{Tables}
 use Rattle.meaning.specs.Rule as step
-use Rattle.numbers.specs.Numbers.{oneOrTwo, zeroOrOne, side-by, sideOf, shapeOf, requestOf}
+use Rattle.numbers.specs.Numbers.{oneOrTwo, zeroOrOne, sideOf, shapeOf, requestOf}
 use Rattle.numbers.specs.Code.{joined, shut}
 use Rattle.berduzhika.specs.Told.{Told, judged, accessTold, activateTold, deactivateTold}
 
@@ -24,7 +25,7 @@ secure-is-two n h = by (eqb n 2) refl
   where
     by : (b : Bool) → eqb n 2 ≡ b → n ≡ 2
     by true e = eqb-true n 2 e
-    by false e = let z : _≡_ {A = ℕ} 0 1 = ap weight (ap side-by (sym e) ∙ h) in absurd (omega (arith, z))
+    by false e = let z : _≡_ {A = ℕ} 0 1 = ap weight (ap (λ (b : Bool). cond b Secure NonSecure) (sym e) ∙ h) in absurd (omega (arith, z))
 
 -- what a request gets that names nothing: 100, and every lent byte as it was
 abbrev nothing : Tables → Told
@@ -36,18 +37,21 @@ unfolding judged shut
 stray-access lines espi eppi mbis frame side way width offset value t h = by (oneOrTwo frame) (oneOrTwo side) h
   where
     by : (a b : Bool) → b ≡ false
-        → judged (a && (b && oneOrTwo way)) (zeroOrOne mbis) (shapeOf lines espi eppi mbis) (step.access (requestOf frame side way width offset value)) t ≡ nothing t
+        → judged (a && (b && oneOrTwo way)) (zeroOrOne mbis) (shapeOf lines espi eppi mbis)
+        (step.access (requestOf frame side way width offset value)) t
+        ≡ nothing t
     by true true e = absurd (clash refl e)
     by true false e = refl
     by false b e = refl
 
-pub stray-activate : (lines espi eppi mbis side intid : ℕ) (t : Tables) → oneOrTwo side ≡ false → activateTold lines espi eppi mbis side intid t ≡ nothing t
+pub stray-activate : (lines espi eppi mbis side intid : ℕ) (t : Tables) → oneOrTwo side ≡ false
+    → activateTold lines espi eppi mbis side intid t ≡ nothing t
 unfolding judged shut
 stray-activate lines espi eppi mbis side intid t h =
-    ap (λ (b : Bool). judged b (zeroOrOne mbis) (shapeOf lines espi eppi mbis) (step.activate (sideOf side) intid) t) h
+    ap (λ (b : Bool). judged b (zeroOrOne mbis) (shapeOf lines espi eppi mbis) (step.happens (Activate (sideOf side)) intid) t) h
 
 pub stray-deactivate : (lines espi eppi mbis side intid : ℕ) (t : Tables) → oneOrTwo side ≡ false
     → deactivateTold lines espi eppi mbis side intid t ≡ nothing t
 unfolding judged shut
 stray-deactivate lines espi eppi mbis side intid t h =
-    ap (λ (b : Bool). judged b (zeroOrOne mbis) (shapeOf lines espi eppi mbis) (step.deactivate (sideOf side) intid) t) h
+    ap (λ (b : Bool). judged b (zeroOrOne mbis) (shapeOf lines espi eppi mbis) (step.happens (Deactivate (sideOf side)) intid) t) h

@@ -11,14 +11,15 @@ use Rattle.types.specs.declared.Answer.{Answer}
 use Rattle.types.specs.declared.Answer.the-variants.{Done, Refused}
 use Rattle.meaning.specs.Answers.{number, statusOf, valueOf}
 use Rattle.meaning.specs.Layout.{Tables}
-use Rattle.meaning.specs.Rule.{Step, first-of}
+use Rattle.meaning.specs.Rule.{Step}
 use Rattle.meaning.specs.Step.{stepped}
 use Rattle.numbers.specs.Code.{joined, codeOf, statusIn, valueIn}
 use Rattle.berduzhika.specs.Told.{Told, told, judged}
 use Rattle.berduzhika.proofs.Fits.{value-fits}
 
 -- Two results that both meet a promise are equal: their numbers, and every lent byte.
-pub unique : (named sound : Bool) (s : Shape) (q : Step) (t : Tables) (a b : Told) → a ≡ judged named sound s q t → b ≡ judged named sound s q t → a ≡ b
+pub unique : (named sound : Bool) (s : Shape) (q : Step) (t : Tables) (a b : Told) → a ≡ judged named sound s q t
+    → b ≡ judged named sound s q t → a ≡ b
 unique named sound s q t a b h k = h ∙ sym k
 
 -- The halves of a number.
@@ -48,7 +49,7 @@ refusalOf n =
     (cond (eqb n 6) refusal.Narrow (cond (eqb n 7) refusal.Intid (cond (eqb n 8) refusal.SgiWire refusal.State)))))))
 
 answerOf : ℕ → ℕ → Answer
-answerOf status value = first-of (eqb status 0) (Done value) (Refused (refusalOf status))
+answerOf status value = cond (eqb status 0) (Done value) (Refused (refusalOf status))
 
 answer-back : (a : Answer) → answerOf (statusOf a) (valueOf a) ≡ a
 unfolding answerOf refusalOf

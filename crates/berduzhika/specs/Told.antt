@@ -3,6 +3,7 @@ use mathlib.Core.Bool.{Bool, true, false, _&&_}
 use Prim.Native.Nat.{ℕ}
 use lib.Dec.{eqb}
 use Rattle.types.specs.declared.Shape.{Shape}
+use Rattle.types.specs.declared.Event.the-variants.{Wire, Activate, Deactivate}
 use Rattle.meaning.specs.Layout.{Tables}
 use Rattle.meaning.specs.Rule as step
 use Rattle.meaning.specs.Step.{Outcome, stepped}
@@ -30,15 +31,15 @@ accessTold lines espi eppi mbis frame side way width offset value t =
 
 abbrev pub wireTold : ℕ → ℕ → ℕ → ℕ → ℕ → ℕ → Tables → Told
 wireTold lines espi eppi mbis intid level t =
-    judged (zeroOrOne level) (zeroOrOne mbis) (shapeOf lines espi eppi mbis) (step.wire intid (eqb level 1)) t
+    judged (zeroOrOne level) (zeroOrOne mbis) (shapeOf lines espi eppi mbis) (step.happens (Wire (eqb level 1)) intid) t
 
 abbrev pub activateTold : ℕ → ℕ → ℕ → ℕ → ℕ → ℕ → Tables → Told
 activateTold lines espi eppi mbis side intid t =
-    judged (oneOrTwo side) (zeroOrOne mbis) (shapeOf lines espi eppi mbis) (step.activate (sideOf side) intid) t
+    judged (oneOrTwo side) (zeroOrOne mbis) (shapeOf lines espi eppi mbis) (step.happens (Activate (sideOf side)) intid) t
 
 abbrev pub deactivateTold : ℕ → ℕ → ℕ → ℕ → ℕ → ℕ → Tables → Told
 deactivateTold lines espi eppi mbis side intid t =
-    judged (oneOrTwo side) (zeroOrOne mbis) (shapeOf lines espi eppi mbis) (step.deactivate (sideOf side) intid) t
+    judged (oneOrTwo side) (zeroOrOne mbis) (shapeOf lines espi eppi mbis) (step.happens (Deactivate (sideOf side)) intid) t
 
 abbrev pub resetTold : ℕ → ℕ → ℕ → ℕ → Tables → Told
 resetTold lines espi eppi mbis t = judged true (zeroOrOne mbis) (shapeOf lines espi eppi mbis) step.reset t

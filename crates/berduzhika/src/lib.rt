@@ -11,10 +11,8 @@ ghost use mathlib.Core.Path.{_≡_};
 ghost use Rattle.meaning.specs.Layout.{lent};
 ghost use Rattle.berduzhika.specs.Told.{accessTold, wireTold, activateTold, deactivateTold, resetTold};
 use controller::access;
-use controller::activate;
-use controller::deactivate;
+use controller::event;
 use controller::reset;
-use controller::wire;
 use numbers::code_of;
 use numbers::gate;
 use numbers::names_access;
@@ -23,6 +21,7 @@ use numbers::request_of;
 use numbers::shape_of;
 use numbers::side_of;
 use numbers::zero_or_one;
+use types::Event;
 
 // A read or a write of `width` bytes at an offset of a frame. A read ignores `value`.
 #[no_mangle]
@@ -42,7 +41,14 @@ pub extern "C" fn berduzhika_access(
     offset: u32,
     value: u32,
 ) -> u64
-    ensures { λ n. ⌜ record { code = n; tables = lent (now (dist .exit)) (now (redist .exit)) (now («dist_presence» .entry)) (now («redist_presence» .entry)) } ≡ accessTold lines espi eppi mbis frame side way width offset value (lent (now (dist .entry)) (now (redist .entry)) (now («dist_presence» .entry)) (now («redist_presence» .entry))) ⌝ }
+    ensures { λ n. ⌜
+        record {
+          code = n;
+          tables = lent (now (dist .exit)) (now (redist .exit)) (now («dist_presence» .entry)) (now («redist_presence» .entry));
+        }
+        ≡ accessTold lines espi eppi mbis frame side way width offset value
+        (lent (now (dist .entry)) (now (redist .entry)) (now («dist_presence» .entry)) (now («redist_presence» .entry)))
+        ⌝ }
 {
     let shut = gate(names_access(frame, side, way), mbis);
     if shut != 0 {
@@ -67,22 +73,29 @@ pub extern "C" fn berduzhika_wire(
     intid: u32,
     level: u32,
 ) -> u64
-    ensures { λ n. ⌜ record { code = n; tables = lent (now (dist .exit)) (now (redist .exit)) (now («dist_presence» .entry)) (now («redist_presence» .entry)) } ≡ wireTold lines espi eppi mbis intid level (lent (now (dist .entry)) (now (redist .entry)) (now («dist_presence» .entry)) (now («redist_presence» .entry))) ⌝ }
+    ensures { λ n. ⌜
+        record {
+          code = n;
+          tables = lent (now (dist .exit)) (now (redist .exit)) (now («dist_presence» .entry)) (now («redist_presence» .entry));
+        }
+        ≡ wireTold lines espi eppi mbis intid level
+        (lent (now (dist .entry)) (now (redist .entry)) (now («dist_presence» .entry)) (now («redist_presence» .entry)))
+        ⌝ }
 {
     let shut = gate(zero_or_one(level), mbis);
     if shut != 0 {
         return shut;
     }
     let shape = shape_of(lines, espi, eppi, mbis);
-    let high = level == 1;
-    code_of(wire(
+    let wire = Event::Wire(level == 1);
+    code_of(event(
         dist,
         redist,
         dist_presence,
         redist_presence,
         shape,
         intid,
-        high,
+        wire,
     ))
 }
 
@@ -100,22 +113,29 @@ pub extern "C" fn berduzhika_activate(
     side: u32,
     intid: u32,
 ) -> u64
-    ensures { λ n. ⌜ record { code = n; tables = lent (now (dist .exit)) (now (redist .exit)) (now («dist_presence» .entry)) (now («redist_presence» .entry)) } ≡ activateTold lines espi eppi mbis side intid (lent (now (dist .entry)) (now (redist .entry)) (now («dist_presence» .entry)) (now («redist_presence» .entry))) ⌝ }
+    ensures { λ n. ⌜
+        record {
+          code = n;
+          tables = lent (now (dist .exit)) (now (redist .exit)) (now («dist_presence» .entry)) (now («redist_presence» .entry));
+        }
+        ≡ activateTold lines espi eppi mbis side intid
+        (lent (now (dist .entry)) (now (redist .entry)) (now («dist_presence» .entry)) (now («redist_presence» .entry)))
+        ⌝ }
 {
     let shut = gate(one_or_two(side), mbis);
     if shut != 0 {
         return shut;
     }
     let shape = shape_of(lines, espi, eppi, mbis);
-    let taker = side_of(side);
-    code_of(activate(
+    let taken = Event::Activate(side_of(side));
+    code_of(event(
         dist,
         redist,
         dist_presence,
         redist_presence,
         shape,
-        taker,
         intid, // as it came: 65836 takes no 300
+        taken,
     ))
 }
 
@@ -133,22 +153,29 @@ pub extern "C" fn berduzhika_deactivate(
     side: u32,
     intid: u32,
 ) -> u64
-    ensures { λ n. ⌜ record { code = n; tables = lent (now (dist .exit)) (now (redist .exit)) (now («dist_presence» .entry)) (now («redist_presence» .entry)) } ≡ deactivateTold lines espi eppi mbis side intid (lent (now (dist .entry)) (now (redist .entry)) (now («dist_presence» .entry)) (now («redist_presence» .entry))) ⌝ }
+    ensures { λ n. ⌜
+        record {
+          code = n;
+          tables = lent (now (dist .exit)) (now (redist .exit)) (now («dist_presence» .entry)) (now («redist_presence» .entry));
+        }
+        ≡ deactivateTold lines espi eppi mbis side intid
+        (lent (now (dist .entry)) (now (redist .entry)) (now («dist_presence» .entry)) (now («redist_presence» .entry)))
+        ⌝ }
 {
     let shut = gate(one_or_two(side), mbis);
     if shut != 0 {
         return shut;
     }
     let shape = shape_of(lines, espi, eppi, mbis);
-    let owner = side_of(side);
-    code_of(deactivate(
+    let done = Event::Deactivate(side_of(side));
+    code_of(event(
         dist,
         redist,
         dist_presence,
         redist_presence,
         shape,
-        owner,
         intid, // as it came: 65836 lets no 300 go
+        done,
     ))
 }
 
@@ -164,7 +191,14 @@ pub extern "C" fn berduzhika_reset(
     eppi: u32,
     mbis: u32,
 ) -> u64
-    ensures { λ n. ⌜ record { code = n; tables = lent (now (dist .exit)) (now (redist .exit)) (now («dist_presence» .entry)) (now («redist_presence» .entry)) } ≡ resetTold lines espi eppi mbis (lent (now (dist .entry)) (now (redist .entry)) (now («dist_presence» .entry)) (now («redist_presence» .entry))) ⌝ }
+    ensures { λ n. ⌜
+        record {
+          code = n;
+          tables = lent (now (dist .exit)) (now (redist .exit)) (now («dist_presence» .entry)) (now («redist_presence» .entry));
+        }
+        ≡ resetTold lines espi eppi mbis
+        (lent (now (dist .entry)) (now (redist .entry)) (now («dist_presence» .entry)) (now («redist_presence» .entry)))
+        ⌝ }
 {
     let shut = gate(true, mbis);
     if shut != 0 {

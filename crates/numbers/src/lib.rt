@@ -77,25 +77,20 @@ fn way_of(n: u32) -> Way
 pub fn shape_of(lines: u32, espi: u32, eppi: u32, mbis: u32) -> Shape
     ensures { λ r. ⌜ r ≡ shapeOf lines espi eppi mbis ⌝ }
 {
-    Shape {
-        lines,
-        espi,
-        eppi,
-        mbis: mbis == 1,
-    }
+    Shape::new(lines, espi, eppi, mbis == 1)
 }
 
 pub fn request_of(frame: u32, side: u32, way: u32, width: u32, offset: u32, value: u32) -> Access
     ensures { λ r. ⌜ r ≡ requestOf frame side way width offset value ⌝ }
 {
-    Access {
-        frame: frame_of(frame),
-        side: side_of(side),
-        way: way_of(way),
+    Access::new(
+        frame_of(frame),
+        side_of(side),
+        way_of(way),
         width,
         offset,
         value,
-    }
+    )
 }
 
 // status · 2^32 + value

@@ -1,3 +1,4 @@
+-- `berduzhika_access` is `accessTold`: what the gate says (returns), and behind it the controller's answer as one number (returns-2).
 use mathlib.Core.Path.{ap}
 use Rattle.meaning.specs.Rule as step
 use Rattle.berduzhika.proofs.Judged.{kept, passed}
@@ -32,8 +33,23 @@ same-length c = search needs
 same-length-2 : tie.Need-same-length-2
 same-length-2 c = search needs
 
+-- once the shape is known, the gate behind it
+abbrev gated : tie.After-shape-of → tie.After-gate
+gated c = c .before .before
+
+-- once the controller has answered
+abbrev asked : tie.After-access → tie.After-request-of
+asked c = c .before .before .before
+
 returns-2 : tie.Need-returns-2
-returns-2 c = passed _ _ _ _ _ _ _ (c .before .before .before .before .before .before .before .before .before .before .before .before .names-access .ensures) (c .before .before .before .before .before .before .before .before .before .before .before .gate .ensures) (c .before .before .before .before .before .before .before .before .before .before .if1 .left) _ _ (c .before .before .before .before .before .before .before .before .before .shape-of .ensures) (ap step.access (c .before .before .before .before .before .before .before .before .request-of .ensures)) _ _ _ (c .code-of .ensures) (c .before .before .before .before .before .access .ensures)
+returns-2 c =
+    let a = c .before .before .before .before .before in
+    let b = asked a in
+    let s = b .before in
+    let g = gated s in
+    passed _ _ _ _ _ _ _ (g .before .names-access .ensures) (g .gate .ensures) (s .before .if1 .left) _ _ (s .shape-of .ensures)
+    (ap step.access (b .request-of .ensures)) _ _ _
+    (c .code-of .ensures) (a .access .ensures)
 
 pub berduzhika-access-spec : {M : Type 1} → statement M
 berduzhika-access-spec =

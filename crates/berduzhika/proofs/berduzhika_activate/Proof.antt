@@ -1,5 +1,8 @@
+-- `berduzhika_activate` is `activateTold`: what the gate says (returns), and behind it the controller's answer
+-- as one number (returns-2).
 use mathlib.Core.Path.{ap}
 use Rattle.types.specs.declared.Side.{Side}
+use Rattle.types.specs.declared.Event.the-variants.{Activate}
 use Rattle.meaning.specs.Rule as step
 use Rattle.berduzhika.proofs.Judged.{kept, passed}
 use borrow.Author.Needs.{needs}
@@ -21,8 +24,8 @@ shape-of-requires c κs = search needs
 side-of-requires : tie.Need-side-of-requires
 side-of-requires c κs = search needs
 
-activate-requires : tie.Need-activate-requires
-activate-requires c κs = search needs
+event-requires : tie.Need-event-requires
+event-requires c κs = search needs
 
 code-of-requires : tie.Need-code-of-requires
 code-of-requires c κs = search needs
@@ -33,8 +36,26 @@ same-length c = search needs
 same-length-2 : tie.Need-same-length-2
 same-length-2 c = search needs
 
+-- once the shape is known, the gate behind it
+abbrev gated : tie.After-shape-of → tie.After-gate
+gated c = c .before .before
+
+-- once the controller has answered
+abbrev asked : tie.After-event → tie.After-side-of
+asked c = c .before .before .before
+
+abbrev entry : tie.After-gate → tie.Start
+entry c = c .before .before .before .before .before .before
+
 returns-2 : tie.Need-returns-2
-returns-2 c = passed _ _ _ _ _ _ _ (c .before .before .before .before .before .before .before .before .before .before .before .before .one-or-two .ensures) (c .before .before .before .before .before .before .before .before .before .before .before .gate .ensures) (c .before .before .before .before .before .before .before .before .before .before .if1 .left) _ _ (c .before .before .before .before .before .before .before .before .before .shape-of .ensures) (ap (λ (x : Side). step.activate x (c .before .before .before .before .before .before .before .before .before .before .before .before .before .before .before .before .before .args .intid)) (c .before .before .before .before .before .before .before .before .side-of .ensures)) _ _ _ (c .code-of .ensures) (c .before .before .before .before .before .activate .ensures)
+returns-2 c =
+    let a = c .before .before .before .before .before in
+    let b = asked a in
+    let s = b .before in
+    let g = gated s in
+    passed _ _ _ _ _ _ _ (g .before .one-or-two .ensures) (g .gate .ensures) (s .before .if1 .left) _ _ (s .shape-of .ensures)
+    (ap (λ (x : Side). step.happens (Activate x) (entry g .args .intid)) (b .side-of .ensures)) _ _ _
+    (c .code-of .ensures) (a .event .ensures)
 
 pub berduzhika-activate-spec : {M : Type 1} → statement M
 berduzhika-activate-spec =
@@ -45,7 +66,7 @@ berduzhika-activate-spec =
     returns
     shape-of-requires
     side-of-requires
-    activate-requires
+    event-requires
     code-of-requires
     same-length
     same-length-2

@@ -1,3 +1,4 @@
+-- `berduzhika_reset` is `resetTold`: what the gate says (returns), and behind it the controller's answer as one number (returns-2).
 use mathlib.Core.Path.{refl}
 use Rattle.berduzhika.proofs.Judged.{kept, passed}
 use borrow.Author.Needs.{needs}
@@ -8,7 +9,7 @@ gate-requires : tie.Need-gate-requires
 gate-requires c κs = search needs
 
 returns : tie.Need-returns
-returns c = kept _ _ _ _ _ _ _ (refl) (c .before .gate .ensures) (c .if1 .taken)
+returns c = kept _ _ _ _ _ _ _ refl (c .before .gate .ensures) (c .if1 .taken)
 
 shape-of-requires : tie.Need-shape-of-requires
 shape-of-requires c κs = search needs
@@ -25,8 +26,21 @@ same-length c = search needs
 same-length-2 : tie.Need-same-length-2
 same-length-2 c = search needs
 
+-- once the shape is known, the gate behind it
+abbrev gated : tie.After-shape-of → tie.After-gate
+gated c = c .before .before
+
+-- once the controller has answered
+abbrev asked : tie.After-reset → tie.After-shape-of
+asked c = c .before .before .before
+
 returns-2 : tie.Need-returns-2
-returns-2 c = passed _ _ _ _ _ _ _ (refl) (c .before .before .before .before .before .before .before .before .before .before .gate .ensures) (c .before .before .before .before .before .before .before .before .before .if1 .left) _ _ (c .before .before .before .before .before .before .before .before .shape-of .ensures) (refl) _ _ _ (c .code-of .ensures) (c .before .before .before .before .before .reset .ensures)
+returns-2 c =
+    let a = c .before .before .before .before .before in
+    let s = asked a in
+    let g = gated s in
+    passed _ _ _ _ _ _ _ refl (g .gate .ensures) (s .before .if1 .left) _ _ (s .shape-of .ensures) refl _ _ _
+    (c .code-of .ensures) (a .reset .ensures)
 
 pub berduzhika-reset-spec : {M : Type 1} → statement M
 berduzhika-reset-spec =

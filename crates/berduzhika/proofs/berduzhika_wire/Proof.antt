@@ -1,3 +1,4 @@
+-- `berduzhika_wire` is `wireTold`: what the gate says (returns), and behind it the controller's answer as one number (returns-2).
 use mathlib.Core.Path.{refl}
 use Rattle.berduzhika.proofs.Judged.{kept, passed}
 use borrow.Author.Needs.{needs}
@@ -16,8 +17,8 @@ returns c = kept _ _ _ _ _ _ _ (c .before .before .zero-or-one .ensures) (c .bef
 shape-of-requires : tie.Need-shape-of-requires
 shape-of-requires c κs = search needs
 
-wire-requires : tie.Need-wire-requires
-wire-requires c κs = search needs
+event-requires : tie.Need-event-requires
+event-requires c κs = search needs
 
 code-of-requires : tie.Need-code-of-requires
 code-of-requires c κs = search needs
@@ -28,8 +29,21 @@ same-length c = search needs
 same-length-2 : tie.Need-same-length-2
 same-length-2 c = search needs
 
+-- once the shape is known, the gate behind it
+abbrev gated : tie.After-shape-of → tie.After-gate
+gated c = c .before .before
+
+-- once the controller has answered
+abbrev asked : tie.After-event → tie.After-shape-of
+asked c = c .before .before .before
+
 returns-2 : tie.Need-returns-2
-returns-2 c = passed _ _ _ _ _ _ _ (c .before .before .before .before .before .before .before .before .before .before .before .zero-or-one .ensures) (c .before .before .before .before .before .before .before .before .before .before .gate .ensures) (c .before .before .before .before .before .before .before .before .before .if1 .left) _ _ (c .before .before .before .before .before .before .before .before .shape-of .ensures) (refl) _ _ _ (c .code-of .ensures) (c .before .before .before .before .before .wire .ensures)
+returns-2 c =
+    let a = c .before .before .before .before .before in
+    let s = asked a in
+    let g = gated s in
+    passed _ _ _ _ _ _ _ (g .before .zero-or-one .ensures) (g .gate .ensures) (s .before .if1 .left) _ _ (s .shape-of .ensures) refl _ _ _
+    (c .code-of .ensures) (a .event .ensures)
 
 pub berduzhika-wire-spec : {M : Type 1} → statement M
 berduzhika-wire-spec =
@@ -39,7 +53,7 @@ berduzhika-wire-spec =
     gate-requires
     returns
     shape-of-requires
-    wire-requires
+    event-requires
     code-of-requires
     same-length
     same-length-2
