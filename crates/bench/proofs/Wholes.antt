@@ -1,60 +1,41 @@
--- A buffer written from its start.
-use mathlib.Core.Path.{_≡_, refl, sym, ap, subst, _∙_}
-use mathlib.Core.Bool.{Bool, true, false, _&&_, true≢false}
+-- A whole replay into one lent buffer, from what `feed` and `put_ending` promise.
+--   whole-full    not all of the input was taken (not-all), or 32 bytes are not free (no-room): what was written stands there
+--   whole-said    all of it, and what ends it was put: the output stands there
+--   from-start    what `feed` promises from a replay's start
+use mathlib.Core.Path.{_≡_, sym, ap, subst, _∙_}
+use mathlib.Core.Bool.{true, false, and-false}
 use mathlib.Core.List.{List, [], _++_}
 use Prim.Native.Nat.{ℕ, _+_, _-_, _<_, _≤_}
 use native.Mathlib.Omega.{arith}
-use lib.Dec.{eqb, leb}
+use lib.Dec.{eqb}
 use lib.ListN.{length, take, drop, take-append-drop, length-take, length-drop, drop-of-length-le, replicate}
 use borrow.Author.Tests.{le-leb, lt-leb, eq-eqb, ne-eqb}
-use Rattle.meaning.specs.Layout.{Tables, lent}
+use Rattle.meaning.specs.Layout.{Tables}
+use Rattle.meaning.proofs.Choices.{cond-true, cond-false}
 use Rattle.text.specs.Sheet.{Put}
 use Rattle.ended.specs.declared.Ended.{Ended}
 use Rattle.ended.specs.declared.Ended.the-variants.{Said, Full}
-use Rattle.script.specs.Replay.{startTables, startProgress, start, ending, finished, replayed}
+use Rattle.script.specs.Replay.{allPresent, startTables, start, ending, finished, replayed}
 use Rattle.script.specs.Stream.{Live, fed, closed, startLive, within}
 use Rattle.script.proofs.Pieces.{within-fed}
 use Rattle.script.proofs.Lines.{streamed}
 use Rattle.held.specs.declared.State.{State}
 use Rattle.held.specs.Held.{startState}
 use Rattle.stream.specs.Living.{liveOf, Taken}
-use Rattle.ended.specs.Ended.{pick, unless, over}
+use Rattle.ended.specs.Ended.{over}
 use Rattle.bench.specs.Whole.{enough, taken, wholeOf, wholeText}
 use Rattle.lines.proofs.Reaching.{put-fits}
 use Rattle.stream.proofs.Living.{further}
 
 -- a buffer by what stands before its end and after it
-written : (b : List ℕ) (e : ℕ) (t : List ℕ) (b′ : List ℕ) → take e b′ ≡ t → drop e b′ ≡ drop e b → e ≤ length b′ → (e ≡ length t) × (b′ ≡ over t b)
+written : (b : List ℕ) (e : ℕ) (t : List ℕ) (b′ : List ℕ) → take e b′ ≡ t → drop e b′ ≡ drop e b → e ≤ length b′
+    → (e ≡ length t) × (b′ ≡ over t b)
 written b e t b′ is kept fits =
     let long : e ≡ length t = omega (arith, simp length-take at (ap length is)) in (
       long,
       sym (take-append-drop e b′)
           ∙ (ap (λ (x : List ℕ). x ++ drop e b′) is ∙ (ap (λ (x : List ℕ). t ++ x) kept ∙ ap (λ (n : ℕ). t ++ drop n b) long)),
     )
-
-and-false-right : (x : Bool) {y : Bool} → y ≡ false → (x && y) ≡ false
-and-false-right true h = h
-and-false-right false h = refl
-
-and-both : {x y : Bool} → x ≡ true → y ≡ true → (x && y) ≡ true
-and-both {x = true} h k = k
-and-both {x = false} h k = h
-
-first-answer : (x : Bool) (a c : Ended) → x ≡ true → pick x a c ≡ a
-first-answer true a c h = refl
-first-answer false a c h = absurd (true≢false (sym h))
-
-second-answer : (x : Bool) (a c : Ended) → x ≡ false → pick x a c ≡ c
-second-answer true a c h = absurd (true≢false h)
-second-answer false a c h = refl
-
-first-text : (x : Bool) (t u : List ℕ) → x ≡ true → unless x t u ≡ t
-first-text true t u h = refl
-first-text false t u h = absurd (true≢false (sym h))
-
-second-text : (x : Bool) (t u : List ℕ) → x ≡ false → unless x t u ≡ u
-second-text true t u h = absurd (true≢false h)
-second-text false t u h = refl
 
 abbrev pub Whole : List ℕ → List ℕ → Ended → List ℕ → Type 0
 Whole input b r b′ = (r ≡ wholeOf (length b) input) × (b′ ≡ over (wholeText (length b) input) b)
@@ -74,9 +55,9 @@ module _ (input b : List ℕ) (s : State) (t : Tables) (line : List ℕ) (used :
   pub whole-full : enough (length b) (taken (length b) input) ≡ false → Whole input b Full b′
   unfolding wholeOf wholeText
   whole-full h = (
-    sym (second-answer (enough (length b) (taken (length b) input)) _ Full h),
+    sym (cond-false _ _ Full h),
     written b e (taken (length b) input .live .run .said) b′ said (got .kept) (got .fits) .1
-        ∙ ap (λ (x : List ℕ). over x b) (sym (second-text (enough (length b) (taken (length b) input)) _ _ h)),
+        ∙ ap (λ (x : List ℕ). over x b) (sym (cond-false _ _ _ h)),
   )
 
   pub not-all : used < length input → enough (length b) (taken (length b) input) ≡ false
@@ -86,8 +67,8 @@ module _ (input b : List ℕ) (s : State) (t : Tables) (line : List ℕ) (used :
   pub no-room : length b′ < e + 32 → enough (length b) (taken (length b) input) ≡ false
   unfolding enough
   no-room h =
-      and-false-right (eqb (length (taken (length b) input .left)) 0)
-      (lt-leb (length (taken (length b) input .live .run .said) + 32) (length b) (omega (arith, counts)))
+      rw (lt-leb (length (taken (length b) input .live .run .said) + 32) (length b) (omega (arith, counts)))
+      (and-false (eqb (length (taken (length b) input .left)) 0))
 
   -- all of it
   whole : length input ≤ used → closed (liveOf s t line b′ e) ≡ replayed input
@@ -98,38 +79,37 @@ module _ (input b : List ℕ) (s : State) (t : Tables) (line : List ℕ) (used :
       ∙ (ap (λ (x : List ℕ). closed (fed (taken (length b) input .live) x)) none
       ∙ (ap closed (within-fed (length b) (startLive 18) input) ∙ streamed 18 (omega arith) input))
 
-  pub whole-said : (rest b″ : List ℕ) (n : ℕ) → rest ≡ take (s .len) line → length input ≤ used → e + 32 ≤ length b′ → Put b′ e (ending (s .at) rest) b″ n → Whole input b (Said n) b″
+  pub whole-said : (rest b″ : List ℕ) (n : ℕ) → rest ≡ take (s .len) line → length input ≤ used → e + 32 ≤ length b′
+      → Put b′ e (ending (s .at) rest) b″ n → Whole input b (Said n) b″
   unfolding wholeOf wholeText enough closed finished
   whole-said rest b″ n ends h room put =
       let longer : e ≤ n = omega (arith, put .end) in
       let all : enough (length b) (taken (length b) input) ≡ true =
-      and-both (eq-eqb (length (taken (length b) input .left)) 0 (omega (arith, remains)))
+      rw (eq-eqb (length (taken (length b) input .left)) 0 (omega (arith, remains)))
       (le-leb (length (taken (length b) input .live .run .said) + 32) (length b) (omega (arith, counts))) in
-      let done = written b n (replayed input) b″ (put .is ∙ (ap (λ (x : List ℕ). take e b′ ++ ending (s .at) x) ends ∙ whole h)) (put .kept ∙ further e n b′ b longer (got .kept)) (put-fits (got .fits) put) in (
-        ap Said (done .0) ∙ sym (first-answer (enough (length b) (taken (length b) input)) _ Full all),
-        done .1 ∙ ap (λ (x : List ℕ). over x b) (sym (first-text (enough (length b) (taken (length b) input)) _ _ all)),
+      let done = written b n (replayed input) b″ (put .is ∙ (ap (λ (x : List ℕ). take e b′ ++ ending (s .at) x) ends ∙ whole h))
+      (put .kept ∙ further e n b′ b longer (got .kept)) (put-fits (got .fits) put) in (
+        ap Said (done .0) ∙ sym (cond-true _ _ Full all),
+        done .1 ∙ ap (λ (x : List ℕ). over x b) (sym (cond-true _ _ _ all)),
       )
 
 -- nothing read yet
-pub start-live : (s : State) (d r dp rp line : List ℕ) → s ≡ startState → d ≡ replicate 2012 0 → r ≡ replicate 96 0
-    → dp ≡ replicate 63 4294967295 → rp ≡ replicate 3 4294967295 → length line ≡ 18 → liveOf s (lent d r dp rp) line [] 0 ≡ startLive 18
-unfolding startState startProgress startTables start startLive
-start-live s d r dp rp line hs hd hr hdp hrp hl =
-    ap (λ (x : State). record { run = record { at = x .at; tables = lent d r dp rp; said = [] }; line = take (x .len) line; most = length line }) hs
-    ∙ (ap (λ (x : List ℕ). live (lent x r dp rp) (length line)) hd
-    ∙ (ap (λ (x : List ℕ). live (lent (replicate 2012 0) x dp rp) (length line)) hr
-    ∙ (ap (λ (x : List ℕ). live (lent (replicate 2012 0) (replicate 96 0) x rp) (length line)) hdp
-    ∙ (ap (λ (x : List ℕ). live (lent (replicate 2012 0) (replicate 96 0) (replicate 63 4294967295) x) (length line)) hrp
-    ∙ ap (λ (n : ℕ). live startTables n) hl))))
-  where
-    live : Tables → ℕ → Live
-    live t n = record { run = record { at = startProgress; tables = t; said = [] }; line = []; most = n }
+module _ {s : State} {d r : List ℕ} (line : List ℕ) (hs : s ≡ startState) (hd : d ≡ replicate 2012 0) (hr : r ≡ replicate 96 0)
+    (hl : length line ≡ 18) where
+  start-live : liveOf s (allPresent d r) line [] 0 ≡ startLive 18
+  unfolding startState startTables start startLive
+  start-live =
+      λ i.
+      record {
+        run = record { at = hs i .at; tables = allPresent (hd i) (hr i); said = [] };
+        line = take (hs i .len) line;
+        most = hl i;
+      }
 
-module _ {s : State} {d r dp rp : List ℕ} (line : List ℕ) (hs : s ≡ startState) (hd : d ≡ replicate 2012 0) (hr : r ≡ replicate 96 0)
-    (hdp : dp ≡ replicate 63 4294967295) (hrp : rp ≡ replicate 3 4294967295) (hl : length line ≡ 18) where
   pub from-start : (input b : List ℕ) (s′ : State) (t : Tables) (line′ : List ℕ) (used : ℕ) (b′ : List ℕ) (e : ℕ)
-      → Taken (within (length b) (liveOf s (lent d r dp rp) line [] 0) input) s′ t line′ input used b b′ e
+      → Taken (within (length b) (liveOf s (allPresent d r) line [] 0) input) s′ t line′ input used b b′ e
       → Taken (taken (length b) input) s′ (taken (length b) input .live .run .tables) line′ input used b b′ e
   from-start input b s′ t line′ used b′ e k =
-      let got = subst (λ (l : Live). Taken (within (length b) l input) s′ t line′ input used b b′ e) (start-live s d r dp rp line hs hd hr hdp hrp hl) k in
-      subst (λ (u : Tables). Taken (taken (length b) input) s′ u line′ input used b b′ e) (ap (λ (l : Live). l .run .tables) (got .live)) got
+      let got = subst (λ (l : Live). Taken (within (length b) l input) s′ t line′ input used b b′ e) start-live k in
+      subst (λ (u : Tables). Taken (taken (length b) input) s′ u line′ input used b b′ e) (ap (λ (l : Live). l .run .tables) (got .live))
+      got

@@ -1,5 +1,5 @@
 -- A whole replay into one lent buffer.
-use mathlib.Core.Bool.{Bool, _&&_}
+use mathlib.Core.Bool.{Bool, cond, _&&_}
 use mathlib.Core.List.{List}
 use Prim.Native.Nat.{ℕ, _+_}
 use lib.Dec.{eqb, leb}
@@ -8,7 +8,6 @@ use Rattle.script.specs.Replay.{replayed}
 use Rattle.script.specs.Stream.{Fed, startLive, within}
 use Rattle.ended.specs.declared.Ended.{Ended}
 use Rattle.ended.specs.declared.Ended.the-variants.{Said, Full}
-use Rattle.ended.specs.Ended.{pick, unless}
 
 -- all of the input was taken, and 32 bytes of the buffer are free
 unfoldable pub enough : ℕ → Fed → Bool
@@ -19,8 +18,8 @@ taken size input = within size (startLive 18) input
 
 -- THE WHOLE REPLAY: its output, where the buffer has room for it
 unfoldable pub wholeOf : ℕ → List ℕ → Ended
-wholeOf size input = pick (enough size (taken size input)) (Said (length (replayed input))) Full
+wholeOf size input = cond (enough size (taken size input)) (Said (length (replayed input))) Full
 
 -- what stands at the start of the buffer after it
 unfoldable pub wholeText : ℕ → List ℕ → List ℕ
-wholeText size input = unless (enough size (taken size input)) (replayed input) (taken size input .live .run .said)
+wholeText size input = cond (enough size (taken size input)) (replayed input) (taken size input .live .run .said)

@@ -4,9 +4,7 @@ ghost use lib.ListN.{length};
 ghost use Rattle.ended.specs.Ended.{over};
 ghost use Rattle.stream.specs.Living.{Taken};
 ghost use Rattle.bench.specs.Whole.{taken, wholeOf, wholeText};
-use blank::dist_present;
 use blank::dist_records;
-use blank::redist_present;
 use blank::redist_records;
 use ended::Ended;
 use held::first;
@@ -18,27 +16,23 @@ use stream::piece::feed;
 // The input from the start of a replay, as far as `out` has room.
 fn from_start(line: &mut [u8], out: &mut [u8], input: &[u8]) -> Fed
     requires { ⌜ length (now line) ≡ 18 ⌝ }
-    ensures { λ r. ⌜ Taken (taken (length (now (out .entry))) (now (input .entry))) (r .state) (taken (length (now (out .entry))) (now (input .entry)) .live .run .tables) (now (line .exit)) (now (input .entry)) (r .used) (now (out .entry)) (now (out .exit)) (r .end) ⌝ }
+    ensures { λ r. ⌜
+        Taken (taken (length (now (out .entry))) (now (input .entry)))
+        (r .state) (taken (length (now (out .entry))) (now (input .entry)) .live .run .tables) (now (line .exit))
+        (now (input .entry)) (r .used) (now (out .entry)) (now (out .exit)) (r .end)
+        ⌝ }
 {
     let mut dist = dist_records();
     let mut redist = redist_records();
-    let present = dist_present();
-    let redist_presence = redist_present();
-    feed(
-        &mut dist,
-        &mut redist,
-        &present,
-        &redist_presence,
-        line,
-        out,
-        start(),
-        input,
-    )
+    feed(&mut dist, &mut redist, line, out, start(), input)
 }
 
 // A whole replay: the input's output, at the start of `out`.
 pub fn replay(input: &[u8], out: &mut [u8]) -> Ended
-    ensures { λ r. ⌜ ((r ≡ wholeOf (length (now (out .entry))) (now (input .entry))) × (now (out .exit) ≡ over (wholeText (length (now (out .entry))) (now (input .entry))) (now (out .entry)))) ⌝ }
+    ensures { λ r. ⌜
+        ((r ≡ wholeOf (length (now (out .entry))) (now (input .entry)))
+        × (now (out .exit) ≡ over (wholeText (length (now (out .entry))) (now (input .entry))) (now (out .entry))))
+        ⌝ }
 {
     let mut line = [0u8; 18];
     let fed = from_start(&mut line, out, input);

@@ -1,6 +1,6 @@
 -- A buffer written from its start.
 use mathlib.Core.Path.{_≡_, sym, ap, _∙_}
-use mathlib.Core.Bool.{Bool, true, false}
+use mathlib.Core.Bool.{Bool, true, false, cond}
 use mathlib.Core.List.{List, [], _++_}
 use Prim.Native.Nat.{ℕ, _+_, _<_, _≤_}
 use native.Mathlib.Nat.{zero-add}
@@ -10,13 +10,14 @@ use lib.ListN.{length, drop, take-append-drop, length-append}
 use borrow.Author.Tests.{le-leb, lt-leb}
 use Rattle.text.specs.Sheet.{Put}
 use Rattle.ended.specs.declared.Ended.the-variants.{Said, Full}
-use Rattle.ended.specs.Ended.{pick, unless, over, endedOf, endedText}
+use Rattle.ended.specs.Ended.{over, endedOf, endedText}
 
 module _ {b : List ℕ} {t : List ℕ} {b′ : List ℕ} {e : ℕ} where
   pub put-over : Put b 0 t b′ e → b′ ≡ over t b
   put-over p =
       sym (take-append-drop e b′)
-      ∙ (ap (λ (x : List ℕ). x ++ drop e b′) (p .is) ∙ (ap (λ (x : List ℕ). t ++ x) (p .kept) ∙ ap (λ (n : ℕ). t ++ drop n b) (p .end ∙ zero-add (length t))))
+      ∙ (ap (λ (x : List ℕ). x ++ drop e b′) (p .is)
+      ∙ (ap (λ (x : List ℕ). t ++ x) (p .kept) ∙ ap (λ (n : ℕ). t ++ drop n b) (p .end ∙ zero-add (length t))))
 
   pub ended-said : 32 ≤ length b → Put b 0 t b′ e → (Said e ≡ endedOf (length b) t) × (b′ ≡ over (endedText (length b) t) b)
   unfolding endedOf endedText
@@ -31,6 +32,6 @@ pub said-fits : (n : ℕ) (b t b′ : List ℕ) → Said n ≡ endedOf (length b
 unfolding endedOf endedText
 said-fits n b t b′ h k = by (leb 32 (length b)) h k
   where
-    by : (x : Bool) → Said n ≡ pick x (Said (length t)) Full → b′ ≡ over (unless x t []) b → n ≤ length b′
+    by : (x : Bool) → Said n ≡ cond x (Said (length t)) Full → b′ ≡ over (cond x t []) b → n ≤ length b′
     by true p q = let same : n ≡ length t = cc in omega (arith, same, simp length-append at (ap length q))
     by false p q = absurd (let z : _≡_ {A = ℕ} 0 1 = cc in omega arith)

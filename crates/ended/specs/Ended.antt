@@ -1,5 +1,5 @@
 -- The last text, into a lent buffer.
-use mathlib.Core.Bool.{Bool, true, false}
+use mathlib.Core.Bool.{cond}
 use mathlib.Core.List.{List, [], _++_}
 use Prim.Native.Nat.{ℕ}
 use lib.Dec.{leb}
@@ -7,21 +7,13 @@ use lib.ListN.{length, drop}
 use Rattle.ended.specs.declared.Ended.{Ended}
 use Rattle.ended.specs.declared.Ended.the-variants.{Said, Full}
 
-abbrev pub pick : Bool → Ended → Ended → Ended
-pick true x y = x
-pick false x y = y
-
-abbrev pub unless : Bool → List ℕ → List ℕ → List ℕ
-unless true t u = t
-unless false t u = u
-
 -- a buffer whose first bytes are a text, the others being as they were
 abbrev pub over : List ℕ → List ℕ → List ℕ
 over t buffer = t ++ drop (length t) buffer
 
 -- the last text wants 32 bytes of a buffer, or nothing is written
 unfoldable pub endedOf : ℕ → List ℕ → Ended
-endedOf size t = pick (leb 32 size) (Said (length t)) Full
+endedOf size t = cond (leb 32 size) (Said (length t)) Full
 
 unfoldable pub endedText : ℕ → List ℕ → List ℕ
-endedText size t = unless (leb 32 size) t []
+endedText size t = cond (leb 32 size) t []

@@ -1,5 +1,5 @@
 -- What is kept from byte to byte.
-use mathlib.Core.Bool.{Bool, true, false}
+use mathlib.Core.Bool.{cond}
 use mathlib.Core.List.{List, [], _∷_}
 use Prim.Native.Nat.{ℕ, _+_}
 use lib.Dec.{eqb, leb}
@@ -19,17 +19,13 @@ pub record Held : Type 0 where
 abbrev pub heldIn : List ℕ → ℕ → Held
 heldIn line len = record { line = line; len = len }
 
-abbrev pub choose : Bool → Held → Held → Held
-choose true h k = h
-choose false h k = k
-
 -- one byte more, where the buffer has room for it
 unfoldable pub stored : Held → ℕ → Held
-stored h b = choose (leb (length (h .line)) (h .len)) h (heldIn (set (h .line) (h .len) b) (h .len + 1))
+stored h b = cond (leb (length (h .line)) (h .len)) h (heldIn (set (h .line) (h .len) b) (h .len + 1))
 
 -- after a line's end the next line is written over the old one
 unfoldable pub byteHeld : Held → ℕ → Held
-byteHeld h b = choose (eqb b 10) (heldIn (h .line) 0) (stored h b)
+byteHeld h b = cond (eqb b 10) (heldIn (h .line) 0) (stored h b)
 
 unfoldable pub bytesHeld : Held → List ℕ → Held
 bytesHeld h [] = h

@@ -1,13 +1,12 @@
 -- Laws of the keys: their places are ten, and no good line has more than 17 bytes before its end.
 use mathlib.Core.Path.{_≡_, refl}
-use mathlib.Core.Bool.{Bool, true, false}
+use mathlib.Core.Bool.{Bool, true, false, cond}
 use mathlib.Core.List.{List}
 use Prim.Native.Nat.{ℕ, _+_, _-_, _<_, _≤_}
 use native.Mathlib.Omega.{arith}
 use lib.ListN.{length, drop, length-drop}
 use Rattle.text.specs.declared.Number.the-variants.{Bad}
 use Rattle.text.specs.Text.{bytes, beginsWith}
-use Rattle.text.specs.Number.{choose}
 use Rattle.text.proofs.Texts.{different}
 use Rattle.text.proofs.Numbers.{number-long}
 use Rattle.keys.specs.declared.Key.{Key}
@@ -26,13 +25,14 @@ rank-small Width = omega arith
 rank-small Offset = omega arith
 rank-small Value = omega arith
 
-same-either : (b : Bool) → choose b Bad Bad ≡ Bad
+same-either : (b : Bool) → cond b Bad Bad ≡ Bad
 same-either true = refl
 same-either false = refl
 
 long-number : (most : ℕ) (key t : List ℕ) → length key + 11 ≤ length t → numberAt most key t ≡ Bad
 unfolding numberAt
-long-number most key t h = rw (number-long (drop (length key) t) (simp length-drop (omega arith))) (same-either (beginsWith key t))
+long-number most key t h =
+    rw (number-long (drop (length key) t) (simp length-drop (omega arith))) (same-either (beginsWith key t))
 
 long-word : (a b t : List ℕ) → length a < length t → length b < length t → oneOf a b t ≡ Bad
 unfolding oneOf

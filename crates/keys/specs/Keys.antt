@@ -1,11 +1,12 @@
 -- The lines of a bench replay: which key stands on which line, and what a line says. Document 01's "Bench replay".
+use mathlib.Core.Bool.{cond}
 use mathlib.Core.List.{List}
 use Prim.Native.Nat.{ℕ}
 use lib.ListN.{length, drop}
 use Rattle.text.specs.declared.Number.{Number}
 use Rattle.text.specs.declared.Number.the-variants.{Is, Bad}
 use Rattle.text.specs.Text.{bytes, beginsWith, sameText}
-use Rattle.text.specs.Number.{choose, limited, numberIn}
+use Rattle.text.specs.Number.{limited, numberIn}
 use Rattle.keys.specs.declared.Key.{Key}
 use Rattle.keys.specs.declared.Key.the-variants.{Lines, Espi, Eppi, Mbis, Op, Frame, Sec, Width, Offset, Value}
 
@@ -41,11 +42,11 @@ atMost most Bad = Bad
 
 -- a key and a number up to its limit
 unfoldable pub numberAt : ℕ → List ℕ → List ℕ → Number
-numberAt most key t = choose (beginsWith key t) (atMost most (numberIn (drop (length key) t))) Bad
+numberAt most key t = cond (beginsWith key t) (atMost most (numberIn (drop (length key) t))) Bad
 
 -- one of two lines: 0 for the first, 1 for the second
 unfoldable pub oneOf : List ℕ → List ℕ → List ℕ → Number
-oneOf a b t = choose (sameText a t) (Is 0) (choose (sameText b t) (Is 1) Bad)
+oneOf a b t = cond (sameText a t) (Is 0) (cond (sameText b t) (Is 1) Bad)
 
 -- What a line, without its end, says for the key whose turn it is. A shape number off its limit is a bad line.
 unfoldable pub fieldOf : Key → List ℕ → Number

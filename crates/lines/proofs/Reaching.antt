@@ -1,4 +1,6 @@
 -- From what is written and kept to the replay that is reached.
+--   reached-bad, reached-step, reached-last, reached-more    a bad line, a whole step, and a good line that is a step's last or not
+--   line-is-over, line-is-full, line-is    a line, by its cases
 use mathlib.Core.Path.{_≡_, refl, sym, ap, subst, _∙_}
 use mathlib.Core.Bool.{true, false}
 use mathlib.Core.List.{List, _++_}
@@ -13,7 +15,8 @@ use Rattle.text.specs.declared.Number.{Number}
 use Rattle.text.specs.Sheet.{Put}
 use Rattle.keys.specs.Keys.{rank, fieldOf}
 use Rattle.script.specs.declared.Progress.{Progress}
-use Rattle.script.specs.Run.{Run, shapeOf, requestOf, badText, stopped, badLine, stepText, counted, answered, completed, keeping, kept, goodLine, judged, lineRead}
+use Rattle.script.specs.Run.{Run, shapeOf, requestOf, badText, stopped, badLine, stepText, counted, answered, completed}
+use Rattle.script.specs.Run.{keeping, kept, goodLine, judged, lineRead}
 use Rattle.script.proofs.Cases.{line-over, line-full, line-judged, good-last, good-more}
 use Rattle.lines.specs.Reached.{runOf, Reached}
 
@@ -23,8 +26,8 @@ module _ {b : List ℕ} {e : ℕ} {t : List ℕ} {b′ : List ℕ} {e′ : ℕ} 
       let both : min e′ (length b′) ≡ min e (length b) + length t = simp (length-take, length-append) at (ap length (p .is)) in
       omega (arith, p .end)
 
-  pub reached-put : (r : Run) (p : Progress) (s : Tables) → e ≤ length b → Put b e t b′ e′ → record { at = p; tables = s; said = take e b ++ t } ≡ r
-      → Reached r p s b e b′ e′
+  pub reached-put : (r : Run) (p : Progress) (s : Tables) → e ≤ length b → Put b e t b′ e′
+      → record { at = p; tables = s; said = take e b ++ t } ≡ r → Reached r p s b e b′ e′
   reached-put r p s h put is =
       record {
         run = ap (λ (x : List ℕ). record { at = p; tables = s; said = x }) (put .is) ∙ is;
@@ -59,8 +62,8 @@ module _ (p : Progress) (s : Tables) (b : List ℕ) (e : ℕ) (h : e ≤ length 
       subst (λ (z : Run). Reached z q s′ b e b′ e′)
       (ap (λ (y : Progress). completed (runOf y s b e)) k ∙ sym (good-last (runOf p s b e) v last)) r
 
-pub reached-more : (p : Progress) (s : Tables) (b : List ℕ) (e : ℕ) → e ≤ length b → (v : ℕ) (x : Progress) → x ≡ keeping p v → (rank (p .key) ≡ 9 → ⊥)
-    → Reached (goodLine (runOf p s b e) v) x s b e b e
+pub reached-more : (p : Progress) (s : Tables) (b : List ℕ) (e : ℕ) → e ≤ length b → (v : ℕ) (x : Progress)
+    → x ≡ keeping p v → (rank (p .key) ≡ 9 → ⊥) → Reached (goodLine (runOf p s b e) v) x s b e b e
 unfolding kept
 reached-more p s b e h v x k more =
     subst (λ (z : Run). Reached z x s b e b e)
@@ -71,9 +74,10 @@ module _ (p : Progress) (s : Tables) (b : List ℕ) (e : ℕ) (l : List ℕ) (q 
   pub line-is-over : p .over ≡ true → Reached (runOf p s b e) q s′ b e b′ e′ → Reached (lineRead (runOf p s b e) l) q s′ b e b′ e′
   line-is-over h r = rw (line-over (runOf p s b e) l h) r
 
-  pub line-is-full : p .over ≡ false → 1000000 ≤ p .steps → Reached (badLine (runOf p s b e)) q s′ b e b′ e′ → Reached (lineRead (runOf p s b e) l) q s′ b e b′ e′
+  pub line-is-full : p .over ≡ false → 1000000 ≤ p .steps → Reached (badLine (runOf p s b e)) q s′ b e b′ e′
+      → Reached (lineRead (runOf p s b e) l) q s′ b e b′ e′
   line-is-full h k r = rw (line-full (runOf p s b e) l h k) r
 
-  pub line-is : (n : Number) → p .over ≡ false → p .steps < 1000000 → n ≡ fieldOf (p .key) l → Reached (judged (runOf p s b e) n) q s′ b e b′ e′
-      → Reached (lineRead (runOf p s b e) l) q s′ b e b′ e′
+  pub line-is : (n : Number) → p .over ≡ false → p .steps < 1000000 → n ≡ fieldOf (p .key) l
+      → Reached (judged (runOf p s b e) n) q s′ b e b′ e′ → Reached (lineRead (runOf p s b e) l) q s′ b e b′ e′
   line-is n h k f r = rw (line-judged (runOf p s b e) l h k, ← f) r

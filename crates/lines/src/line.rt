@@ -5,8 +5,8 @@ ghost use lib.ListN.{length};
 ghost use Rattle.meaning.specs.Rule.{access as by-access};
 ghost use Rattle.meaning.specs.Step.{stepped};
 ghost use Rattle.text.specs.Sheet.{Put};
-ghost use Rattle.meaning.specs.Layout.{lent};
 ghost use Rattle.script.specs.Run.{shapeOf, requestOf, badText, stopped, counted, completed, keeping, goodLine, lineRead};
+ghost use Rattle.script.specs.Replay.{allPresent};
 ghost use Rattle.lines.specs.Reached.{runOf, Reached};
 use crate::Told;
 use controller::access;
@@ -21,19 +21,25 @@ use steps::request::shape_of;
 use text::Number;
 use types::Answer;
 
-// The one call of the controller: a step, from the values of its lines.
-fn act(
-    dist: &mut [u8],
-    redist: &mut [u8],
-    dist_presence: &[u32],
-    redist_presence: &[u32],
-    values: [u32; 10],
-) -> Answer
-    ensures { λ a. ⌜ record { answered = a; tables = lent (now (dist .exit)) (now (redist .exit)) (now («dist_presence» .entry)) (now («redist_presence» .entry)) } ≡ stepped (shapeOf values) (by-access (requestOf values)) (lent (now (dist .entry)) (now (redist .entry)) (now («dist_presence» .entry)) (now («redist_presence» .entry))) ⌝ }
+// The one call of the controller: a step, from the values of its lines. All interrupts are present.
+fn act(dist: &mut [u8], redist: &mut [u8], values: [u32; 10]) -> Answer
+    ensures { λ a. ⌜
+        record { answered = a; tables = allPresent (now (dist .exit)) (now (redist .exit)) }
+        ≡ stepped (shapeOf values) (by-access (requestOf values)) (allPresent (now (dist .entry)) (now (redist .entry)))
+        ⌝ }
 {
+    let dist_presence = [4294967295u32; 63];
+    let redist_presence = [4294967295u32; 3];
     let shape = shape_of(values);
     let request = request_of(values);
-    access(dist, redist, dist_presence, redist_presence, shape, request)
+    access(
+        dist,
+        redist,
+        &dist_presence,
+        &redist_presence,
+        shape,
+        request,
+    )
 }
 
 // One step more is answered.
@@ -52,21 +58,16 @@ fn count(p: Progress) -> Progress
 }
 
 // A whole step: the controller's answer is written.
-fn complete(
-    dist: &mut [u8],
-    redist: &mut [u8],
-    dist_presence: &[u32],
-    redist_presence: &[u32],
-    out: &mut [u8],
-    end: usize,
-    p: Progress,
-) -> Told
+fn complete(dist: &mut [u8], redist: &mut [u8], out: &mut [u8], end: usize, p: Progress) -> Told
     requires { ⌜ end + 128 ≤ length (now out) ⌝ }
     requires { ⌜ p .steps < 1000000 ⌝ }
-    ensures { λ t. ⌜ Reached (completed (runOf p (lent (now (dist .entry)) (now (redist .entry)) (now («dist_presence» .entry)) (now («redist_presence» .entry))) (now (out .entry)) end)) (t .at) (lent (now (dist .exit)) (now (redist .exit)) (now («dist_presence» .entry)) (now («redist_presence» .entry))) (now (out .entry)) end (now (out .exit)) (t .end) ⌝ }
+    ensures { λ t. ⌜
+        Reached (completed (runOf p (allPresent (now (dist .entry)) (now (redist .entry))) (now (out .entry)) end))
+        (t .at) (allPresent (now (dist .exit)) (now (redist .exit))) (now (out .entry)) end (now (out .exit)) (t .end)
+        ⌝ }
 {
     let values = p.values;
-    let answer = act(dist, redist, dist_presence, redist_presence, values);
+    let answer = act(dist, redist, values);
     let at = count(p);
     let last = put_step(out, end, at.steps, answer);
     Told { at, end: last }
@@ -88,24 +89,18 @@ fn keep(p: Progress, v: u32) -> Progress
     }
 }
 
-fn good(
-    dist: &mut [u8],
-    redist: &mut [u8],
-    dist_presence: &[u32],
-    redist_presence: &[u32],
-    out: &mut [u8],
-    end: usize,
-    p: Progress,
-    v: u32,
-) -> Told
+fn good(dist: &mut [u8], redist: &mut [u8], out: &mut [u8], end: usize, p: Progress, v: u32) -> Told
     requires { ⌜ end + 128 ≤ length (now out) ⌝ }
     requires { ⌜ p .steps < 1000000 ⌝ }
-    ensures { λ t. ⌜ Reached (goodLine (runOf p (lent (now (dist .entry)) (now (redist .entry)) (now («dist_presence» .entry)) (now («redist_presence» .entry))) (now (out .entry)) end) v) (t .at) (lent (now (dist .exit)) (now (redist .exit)) (now («dist_presence» .entry)) (now («redist_presence» .entry))) (now (out .entry)) end (now (out .exit)) (t .end) ⌝ }
+    ensures { λ t. ⌜
+        Reached (goodLine (runOf p (allPresent (now (dist .entry)) (now (redist .entry))) (now (out .entry)) end) v)
+        (t .at) (allPresent (now (dist .exit)) (now (redist .exit))) (now (out .entry)) end (now (out .exit)) (t .end)
+        ⌝ }
 {
     let key = p.key;
     let at = keep(p, v);
     if rank(key) == 9 {
-        return complete(dist, redist, dist_presence, redist_presence, out, end, at);
+        return complete(dist, redist, out, end, at);
     }
     Told { at, end }
 }
@@ -138,15 +133,16 @@ fn bad(out: &mut [u8], end: usize, p: Progress) -> Told
 pub fn line_read(
     dist: &mut [u8],
     redist: &mut [u8],
-    dist_presence: &[u32],
-    redist_presence: &[u32],
     out: &mut [u8],
     end: usize,
     p: Progress,
     line: &[u8],
 ) -> Told
     requires { ⌜ end + 128 ≤ length (now out) ⌝ }
-    ensures { λ t. ⌜ Reached (lineRead (runOf p (lent (now (dist .entry)) (now (redist .entry)) (now («dist_presence» .entry)) (now («redist_presence» .entry))) (now (out .entry)) end) (now (line .entry))) (t .at) (lent (now (dist .exit)) (now (redist .exit)) (now («dist_presence» .entry)) (now («redist_presence» .entry))) (now (out .entry)) end (now (out .exit)) (t .end) ⌝ }
+    ensures { λ t. ⌜
+        Reached (lineRead (runOf p (allPresent (now (dist .entry)) (now (redist .entry))) (now (out .entry)) end) (now (line .entry)))
+        (t .at) (allPresent (now (dist .exit)) (now (redist .exit))) (now (out .entry)) end (now (out .exit)) (t .end)
+        ⌝ }
 {
     if p.over {
         return Told { at: p, end };
@@ -156,7 +152,7 @@ pub fn line_read(
     }
     let key = p.key;
     match field(line, key) {
-        Number::Is(v) => good(dist, redist, dist_presence, redist_presence, out, end, p, v),
+        Number::Is(v) => good(dist, redist, out, end, p, v),
         Number::Bad => bad(out, end, p),
     }
 }

@@ -4,9 +4,7 @@
 // short is not taken for a whole one.
 ghost use Prim.Native.Nat.{_≤_};
 ghost use lib.ListN.{length};
-use blank::dist_present;
 use blank::dist_records;
-use blank::redist_present;
 use blank::redist_records;
 use ended::Ended;
 use ended::finish;
@@ -28,8 +26,6 @@ struct After {
 fn take(
     dist: &mut [u8],
     redist: &mut [u8],
-    dist_presence: &[u32],
-    redist_presence: &[u32],
     line: &mut [u8],
     out: &mut [u8],
     s: State,
@@ -40,16 +36,7 @@ fn take(
     let mut state = s;
     let mut from: usize = 0;
     while from < piece.len() {
-        let fed = feed(
-            dist,
-            redist,
-            dist_presence,
-            redist_presence,
-            line,
-            out,
-            state,
-            &piece[from..],
-        );
+        let fed = feed(dist, redist, line, out, state, &piece[from..]);
         state = fed.state;
         from += fed.used;
         let end = fed.end;
@@ -70,14 +57,7 @@ fn take(
 }
 
 // Reads once, and takes what came.
-fn turn(
-    dist: &mut [u8],
-    redist: &mut [u8],
-    dist_presence: &[u32],
-    redist_presence: &[u32],
-    line: &mut [u8],
-    s: State,
-) -> After {
+fn turn(dist: &mut [u8], redist: &mut [u8], line: &mut [u8], s: State) -> After {
     let mut buffer = io::large_buffer();
     let got = libc::read(STDIN_FILENO, &mut buffer);
     if got <= 0 {
@@ -89,16 +69,7 @@ fn turn(
     }
     let n = io::count(got, &buffer);
     let mut out = io::large_buffer();
-    take(
-        dist,
-        redist,
-        dist_presence,
-        redist_presence,
-        line,
-        &mut out,
-        s,
-        &buffer[..n],
-    )
+    take(dist, redist, line, &mut out, s, &buffer[..n])
 }
 
 // The input has ended.
@@ -115,17 +86,11 @@ fn close(line: &[u8], s: State) {
 
 // Turn after turn, to the input's end. A proved loop has to end, and nothing says that an input does: the count of turns is more
 // than any run uses.
-fn run(
-    dist: &mut [u8],
-    redist: &mut [u8],
-    dist_presence: &[u32],
-    redist_presence: &[u32],
-    line: &mut [u8],
-) {
+fn run(dist: &mut [u8], redist: &mut [u8], line: &mut [u8]) {
     let mut state = start();
     let mut turns = u64::MAX;
     while turns > 0 {
-        let after = turn(dist, redist, dist_presence, redist_presence, line, state);
+        let after = turn(dist, redist, line, state);
         state = after.state;
         if after.failed {
             io::write_all(STDERR_FILENO, b"replay: a read or a write failed\n");
@@ -142,14 +107,6 @@ fn run(
 fn main() {
     let mut dist = dist_records();
     let mut redist = redist_records();
-    let present = dist_present();
-    let redist_presence = redist_present();
     let mut line = [0u8; 18];
-    run(
-        &mut dist,
-        &mut redist,
-        &present,
-        &redist_presence,
-        &mut line,
-    );
+    run(&mut dist, &mut redist, &mut line);
 }

@@ -1,20 +1,21 @@
 -- bad= shows the number of the line that is bad: the line whose turn it is, counted from 1.
-use mathlib.Core.Path.{_≡_, refl}
-use mathlib.Core.Bool.{Bool, true, false, true≢false}
+use mathlib.Core.Path.{_≡_}
+use mathlib.Core.Bool.{Bool, false, cond, true≢false}
 use mathlib.Core.List.{List, [], _∷_}
 use Prim.Native.Nat.{ℕ, suc, _+_}
 use native.Mathlib.Omega.{arith}
 use lib.Dec.{leb}
 use lib.ListN.{length}
+use Rattle.lists.proofs.Bools.{clash}
 use Rattle.meaning.specs.Layout.{Tables}
+use Rattle.meaning.proofs.Choices.{chosen}
 use Rattle.text.specs.declared.Number.{Number}
 use Rattle.text.specs.declared.Number.the-variants.{Is, Bad}
-use Rattle.text.specs.Number.{choose}
 use Rattle.keys.specs.declared.Key.{Key}
 use Rattle.keys.specs.declared.Key.the-variants.{Lines, Espi, Eppi, Mbis, Op, Frame, Sec, Width, Offset, Value}
 use Rattle.keys.specs.Keys.{fieldOf}
-use Rattle.script.specs.declared.Progress.{Progress}
-use Rattle.script.specs.Run.{Run, either, lineNumber, stopped, badLine, counted, answered, completed, keeping, kept, goodLine, judged, lineRead}
+use Rattle.script.specs.Run.{Run, lineNumber, stopped, badLine, counted, answered, completed, keeping, kept}
+use Rattle.script.specs.Run.{goodLine, judged, lineRead}
 use Rattle.script.specs.Replay.{start, startProgress, linesRead}
 
 abbrev run : Key → List ℕ → ℕ → Bool → Tables → List ℕ → Run
@@ -39,20 +40,11 @@ unfolding badLine stopped
 judged-counts r (Is v) h = good-counts (r .at .key) (r .at .values) (r .at .steps) (r .at .over) (r .tables) (r .said) v
 judged-counts r Bad h = absurd (true≢false h)
 
-either-stays : (x : Bool) (r q : Run) → r .at .over ≡ x → either x r q .at .over ≡ false → r .at .over ≡ false
-either-stays true r q e h = h
-either-stays false r q e h = e
-
-either-counts : (x : Bool) (r q : Run) (m : ℕ) → x ≡ false → (q .at .over ≡ false → lineNumber (q .at) ≡ m)
-    → either x r q .at .over ≡ false → lineNumber (either x r q .at) ≡ m
-either-counts true r q m e k h = absurd (true≢false e)
-either-counts false r q m e k h = k h
-
 -- once over, a replay stays so
 line-stays : (r : Run) (t : List ℕ) → lineRead r t .at .over ≡ false → r .at .over ≡ false
 unfolding lineRead
-line-stays r t h =
-    either-stays (r .at .over) r (judged r (choose (leb 1000000 (r .at .steps)) Bad (fieldOf (r .at .key) t))) refl h
+line-stays r t =
+    chosen (λ (q : Run). q .at .over ≡ false → r .at .over ≡ false) (r .at .over) r _ (λ e h. h) (λ e h. e)
 
 lines-stay : (r : Run) (ts : List (List ℕ)) → linesRead r ts .at .over ≡ false → r .at .over ≡ false
 unfolding linesRead
@@ -63,10 +55,11 @@ lines-stay r (t ∷ ts) h = line-stays r t (lines-stay (lineRead r t) ts h)
 line-counts : (r : Run) (t : List ℕ) → lineRead r t .at .over ≡ false → lineNumber (lineRead r t .at) ≡ suc (lineNumber (r .at))
 unfolding lineRead
 line-counts r t h =
-    let n = choose (leb 1000000 (r .at .steps)) Bad (fieldOf (r .at .key) t) in
-    either-counts (r .at .over) r (judged r n) (suc (lineNumber (r .at))) (line-stays r t h) (judged-counts r n) h
+    chosen (λ (q : Run). q .at .over ≡ false → lineNumber (q .at) ≡ suc (lineNumber (r .at))) (r .at .over) r _
+    (λ e k. absurd (clash e k)) (λ e. judged-counts r (cond (leb 1000000 (r .at .steps)) Bad (fieldOf (r .at .key) t))) h
 
-lines-count : (r : Run) (ts : List (List ℕ)) → linesRead r ts .at .over ≡ false → lineNumber (linesRead r ts .at) ≡ length ts + lineNumber (r .at)
+lines-count : (r : Run) (ts : List (List ℕ)) → linesRead r ts .at .over ≡ false
+    → lineNumber (linesRead r ts .at) ≡ length ts + lineNumber (r .at)
 unfolding linesRead
 lines-count r [] h = omega arith
 lines-count r (t ∷ ts) h =

@@ -1,24 +1,24 @@
 -- The replay byte by byte is the replay by lines.
 use mathlib.Core.Path.{_≡_, refl, sym, ap, _∙_}
-use mathlib.Core.Bool.{Bool, true, false, _&&_}
+use mathlib.Core.Bool.{Bool, true, false, cond, _&&_}
 use mathlib.Core.List.{List, [], _∷_, _++_, append-assoc, append-nil}
 use Prim.Native.Nat.{ℕ, zero, suc, _+_, _≤_}
 use native.Mathlib.Omega.{arith}
-use lib.Dec.{eqb, ltb, leb}
+use lib.Dec.{eqb, leb}
 use lib.ListN.{length, take, length-take, length-append}
 use lib.Seq.{take-all, take-nil, take-append-le}
 use borrow.Author.Tests.{lt-ltb, le-ltb, leb-true, leb-false, eq-eqb, ne-eqb}
 use Rattle.text.specs.declared.Number.{Number}
 use Rattle.text.specs.declared.Number.the-variants.{Bad}
-use Rattle.text.specs.Number.{choose, numbered}
+use Rattle.text.specs.Number.{numbered}
 use Rattle.text.specs.Text.{bytes}
 use Rattle.keys.specs.declared.Key.{Key}
 use Rattle.keys.specs.Keys.{fieldOf}
 use Rattle.keys.proofs.Fields.{long-field}
 use Rattle.script.specs.declared.Progress.{Progress}
-use Rattle.script.specs.Run.{Run, either, judged, lineRead, badText}
-use Rattle.script.specs.Replay.{Cut, longer, ending-at, cut, start, linesRead, unless, isFirst, ending, finished, replayed}
-use Rattle.script.specs.Stream.{Live, when, pushed, byteRead, fed, startLive, closed, inPieces, joined}
+use Rattle.script.specs.Run.{Run, judged, lineRead, badText}
+use Rattle.script.specs.Replay.{Cut, longer, cut, start, linesRead, isFirst, ending, finished, replayed}
+use Rattle.script.specs.Stream.{Live, pushed, byteRead, fed, startLive, closed, inPieces, joined}
 use Rattle.script.proofs.Pieces.{pieces}
 
 -- Enough bytes of a line are kept to judge it.
@@ -35,7 +35,7 @@ module _ (most : ℕ) (enough : 18 ≤ most) where
   line-short : (r : Run) (t : List ℕ) → lineRead r (take most t) ≡ lineRead r t
   unfolding lineRead
   line-short r t =
-      ap (λ (n : Number). either (r .at .over) r (judged r (choose (leb 1000000 (r .at .steps)) Bad n))) (field-short (r .at .key) t)
+      ap (λ (n : Number). cond (r .at .over) r (judged r (cond (leb 1000000 (r .at .steps)) Bad n))) (field-short (r .at .key) t)
 
   pushed-short : (t : List ℕ) (b : ℕ) → pushed most (take most t) b ≡ take most (t ++ (b ∷ []))
   unfolding pushed
@@ -53,7 +53,8 @@ module _ (most : ℕ) (enough : 18 ≤ most) where
   ending-short : (p : Progress) (t : List ℕ) → ending p (take most t) ≡ ending p t
   unfolding ending
   ending-short p t =
-      ap (λ (x : Bool). unless (p .over) [] (unless (isFirst (p .key) && x) (numbered (bytes "end=") (p .steps)) (badText p))) (none (length t) refl)
+      ap (λ (x : Bool). cond (p .over) [] (cond (isFirst (p .key) && x) (numbered (bytes "end=") (p .steps)) (badText p)))
+      (none (length t) refl)
     where
       none : (n : ℕ) → length t ≡ n → eqb (length (take most t)) 0 ≡ eqb (length t) 0
       none zero e = rw (eq-eqb (length t) 0 e, eq-eqb (length (take most t)) 0 (simp length-take (omega arith)))
@@ -100,8 +101,9 @@ module _ (most : ℕ) (enough : 18 ≤ most) where
       step : (x : Bool)
           → fed (live (lineRead r (take most t)) []) bs ≡ cut-read (lineRead r (take most t)) (cut bs)
           → fed (live r (take most (t ++ (b ∷ [])))) bs ≡ cut-read r (before (t ++ (b ∷ [])) (cut bs))
-          → fed (when x (live (lineRead r (take most t)) []) (live r (pushed most (take most t) b))) bs
-          ≡ cut-read r (before t (ending-at x b (cut bs)))
+          → fed (cond x (live (lineRead r (take most t)) []) (live r (pushed most (take most t) b))) bs
+          ≡ cut-read r
+          (before t (cond x (record { lines = [] ∷ cut bs .lines; rest = cut bs .rest }) (longer b (cut bs .lines) (cut bs .rest))))
       step true end more =
           end
           ∙ ap (λ (q : Run). cut-read q (cut bs)) (line-short most enough r t ∙ ap (lineRead r) (sym (append-nil t)))

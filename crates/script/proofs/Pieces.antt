@@ -1,14 +1,13 @@
 -- Reading in pieces of any size, and stopping wherever the output has no more room, gives the same output.
 use mathlib.Core.Path.{_≡_, refl, sym, ap, _∙_}
-use mathlib.Core.Bool.{Bool, true, false}
 use mathlib.Core.List.{List, [], _∷_, _++_}
 use Prim.Native.Nat.{ℕ, suc, _+_, _<_, _≤_}
 use native.Mathlib.Nat.{le-refl, not-suc-le-zero}
 use native.Mathlib.Omega.{arith}
-use lib.Dec.{leb}
 use lib.ListN.{length}
 use borrow.Author.Tests.{le-leb}
-use Rattle.script.specs.Stream.{Live, byteRead, fed, closed, quiet, Fed, goOn, hasRoom, within, inPieces, joined}
+use Rattle.meaning.proofs.Choices.{cond-both, chosen}
+use Rattle.script.specs.Stream.{Live, byteRead, fed, closed, quiet, Fed, hasRoom, within, inPieces, joined}
 use Rattle.script.proofs.Prefixes.{closed-quiet}
 
 -- pieces compose
@@ -25,28 +24,21 @@ pieces l (p ∷ ps) =
     ap (λ (t : List ℕ). fed l p .run .said ++ t) (pieces (quiet (fed l p)) ps)
     ∙ (sym (closed-quiet (fed l p) (joined ps)) ∙ ap closed (sym (fed-append l p (joined ps))))
 
-on-fed : (b : Bool) (f g : Fed) (m : Live) → fed (f .live) (f .left) ≡ m → fed (g .live) (g .left) ≡ m → fed (goOn b f g .live) (goOn b f g .left) ≡ m
-on-fed true f g m h k = h
-on-fed false f g m h k = k
-
 -- what is left of a piece, taken later, is as if all had been taken at once
 pub within-fed : (size : ℕ) (l : Live) (bs : List ℕ) → fed (within size l bs .live) (within size l bs .left) ≡ fed l bs
 unfolding within fed
 within-fed size l [] = refl
 within-fed size l (b ∷ bs) =
-    on-fed (hasRoom size l) (within size (byteRead l b) bs) (record { live = l; left = b ∷ bs }) (fed (byteRead l b) bs)
-    (within-fed size (byteRead l b) bs) refl
-
-on-left : (b : Bool) (f g : Fed) (n : ℕ) → length (f .left) ≤ n → length (g .left) ≤ n → length (goOn b f g .left) ≤ n
-on-left true f g n h k = h
-on-left false f g n h k = k
+    cond-both (λ (f : Fed). fed (f .live) (f .left)) (hasRoom size l) (within size (byteRead l b) bs)
+    (record { live = l; left = b ∷ bs }) (within-fed size (byteRead l b) bs) refl
 
 pub within-left : (size : ℕ) (l : Live) (bs : List ℕ) → length (within size l bs .left) ≤ length bs
 unfolding within
 within-left size l [] = le-refl 0
 within-left size l (b ∷ bs) =
     let h = within-left size (byteRead l b) bs in
-    on-left (hasRoom size l) (within size (byteRead l b) bs) (record { live = l; left = b ∷ bs }) (suc (length bs)) (omega arith) (omega arith)
+    chosen (λ (f : Fed). length (f .left) ≤ suc (length bs)) (hasRoom size l) (within size (byteRead l b) bs)
+    (record { live = l; left = b ∷ bs }) (λ e. omega arith) (λ e. omega arith)
 
 -- with room at the start, something is taken
 pub within-goes : (size : ℕ) (l : Live) (bs : List ℕ) → length (l .run .said) + 128 ≤ size → 0 < length bs

@@ -1,18 +1,19 @@
 -- What was written before does not change what is done: a replay goes on behind it.
 use mathlib.Core.Path.{_≡_, refl, sym, ap, _∙_}
-use mathlib.Core.Bool.{Bool, true, false}
+use mathlib.Core.Bool.{cond}
 use mathlib.Core.List.{List, [], _∷_, _++_, append-assoc, append-nil}
 use Prim.Native.Nat.{ℕ, _+_}
 use lib.Dec.{eqb, leb}
 use Rattle.meaning.specs.Step.{Outcome, stepped}
 use Rattle.meaning.specs.Rule.{access}
+use Rattle.meaning.proofs.Choices.{cond-alike}
 use Rattle.text.specs.declared.Number.{Number}
 use Rattle.text.specs.declared.Number.the-variants.{Is, Bad}
-use Rattle.text.specs.Number.{choose}
 use Rattle.keys.specs.Keys.{fieldOf}
-use Rattle.script.specs.Run.{Run, either, shapeOf, requestOf, badText, badLine, stepText, answered, completed, kept, isLast, goodLine, judged, lineRead}
+use Rattle.script.specs.Run.{Run, shapeOf, requestOf, badText, badLine, stepText, answered, completed, kept, isLast}
+use Rattle.script.specs.Run.{goodLine, judged, lineRead}
 use Rattle.script.specs.Replay.{ending, finished}
-use Rattle.script.specs.Stream.{Live, when, pushed, byteRead, fed, closed, quiet}
+use Rattle.script.specs.Stream.{Live, byteRead, fed, closed, quiet}
 
 -- a run behind what was written before it
 abbrev pub behind : List ℕ → Run → Run
@@ -33,13 +34,10 @@ completed-behind : (t : List ℕ) (r : Run) → completed (behind t r) ≡ behin
 unfolding completed
 completed-behind t r = answered-behind t r (stepped (shapeOf (r .at .values)) (access (requestOf (r .at .values))) (r .tables))
 
-either-behind : (b : Bool) (t : List ℕ) (r s : Run) {p q : Run} → p ≡ behind t r → q ≡ behind t s → either b p q ≡ behind t (either b r s)
-either-behind true t r s h k = h
-either-behind false t r s h k = k
-
 good-behind : (t : List ℕ) (r : Run) (v : ℕ) → goodLine (behind t r) v ≡ behind t (goodLine r v)
 unfolding goodLine kept
-good-behind t r v = either-behind (isLast (r .at .key)) t (completed (kept r v)) (kept r v) (completed-behind t (kept r v)) refl
+good-behind t r v =
+    cond-alike (λ (q : Run). q) (behind t) (isLast (r .at .key)) _ _ _ _ (λ e. completed-behind t (kept r v)) (λ e. refl)
 
 judged-behind : (t : List ℕ) (r : Run) (n : Number) → judged (behind t r) n ≡ behind t (judged r n)
 judged-behind t r (Is v) = good-behind t r v
@@ -48,20 +46,17 @@ judged-behind t r Bad = bad-behind t r
 pub line-behind : (t : List ℕ) (r : Run) (l : List ℕ) → lineRead (behind t r) l ≡ behind t (lineRead r l)
 unfolding lineRead
 line-behind t r l =
-    let n = choose (leb 1000000 (r .at .steps)) Bad (fieldOf (r .at .key) l) in
-    either-behind (r .at .over) t r (judged r n) refl (judged-behind t r n)
+    cond-alike (λ (q : Run). q) (behind t) (r .at .over) _ _ _ _ (λ e. refl)
+    (λ e. judged-behind t r (cond (leb 1000000 (r .at .steps)) Bad (fieldOf (r .at .key) l)))
 
 abbrev pub later : List ℕ → Live → Live
 later t l = record { run = behind t (l .run); line = l .line; most = l .most }
 
-when-later : (b : Bool) (t : List ℕ) (l m : Live) {j k : Live} → j ≡ later t l → k ≡ later t m → when b j k ≡ later t (when b l m)
-when-later true t l m h k = h
-when-later false t l m h k = k
-
 pub byte-later : (t : List ℕ) (l : Live) (b : ℕ) → byteRead (later t l) b ≡ later t (byteRead l b)
 unfolding byteRead
 byte-later t l b =
-    when-later (eqb b 10) t (record { run = lineRead (l .run) (l .line); line = []; most = l .most }) (record { run = l .run; line = pushed (l .most) (l .line) b; most = l .most }) (ap (λ (r : Run). record { run = r; line = []; most = l .most }) (line-behind t (l .run) (l .line))) refl
+    cond-alike (λ (m : Live). m) (later t) (eqb b 10) _ _ _ _
+    (λ e. ap (λ (r : Run). record { run = r; line = []; most = l .most }) (line-behind t (l .run) (l .line))) (λ e. refl)
 
 pub fed-later : (t : List ℕ) (l : Live) (bs : List ℕ) → fed (later t l) bs ≡ later t (fed l bs)
 unfolding fed

@@ -1,5 +1,5 @@
 -- A whole replay: the output for an input, by lines.
-use mathlib.Core.Bool.{Bool, true, false, _&&_}
+use mathlib.Core.Bool.{Bool, false, cond, _&&_}
 use mathlib.Core.List.{List, [], _∷_, _++_}
 use Prim.Native.Nat.{ℕ}
 use lib.Dec.{eqb}
@@ -22,23 +22,24 @@ abbrev pub longer : ℕ → List (List ℕ) → List ℕ → Cut
 longer b [] rest = record { lines = []; rest = b ∷ rest }
 longer b (l ∷ ls) rest = record { lines = (b ∷ l) ∷ ls; rest = rest }
 
-abbrev pub ending-at : Bool → ℕ → Cut → Cut
-ending-at true b k = record { lines = [] ∷ k .lines; rest = k .rest }
-ending-at false b k = longer b (k .lines) (k .rest)
-
 unfoldable pub cut : List ℕ → Cut
 cut [] = record { lines = []; rest = [] }
-cut (b ∷ bs) = ending-at (eqb b 10) b (cut bs)
+cut (b ∷ bs) =
+    cond (eqb b 10) (record { lines = [] ∷ cut bs .lines; rest = cut bs .rest }) (longer b (cut bs .lines) (cut bs .rest))
 
--- All interrupts present, records start at 0.
-unfoldable pub startTables : Tables
-startTables =
+-- The lent tables of a replay, by their records: all interrupts are present.
+unfoldable pub allPresent : List ℕ → List ℕ → Tables
+allPresent dist redist =
     record {
-      dist = replicate 2012 0;
-      redist = replicate 96 0;
+      dist = dist;
+      redist = redist;
       distPresence = replicate 63 4294967295;
       redistPresence = replicate 3 4294967295;
     }
+
+-- Records start at 0.
+unfoldable pub startTables : Tables
+startTables = allPresent (replicate 2012 0) (replicate 96 0)
 
 unfoldable pub startProgress : Progress
 startProgress = record { key = key.Lines; values = replicate 10 0; steps = 0; over = false }
@@ -50,10 +51,6 @@ unfoldable pub linesRead : Run → List (List ℕ) → Run
 linesRead r [] = r
 linesRead r (t ∷ ts) = linesRead (lineRead r t) ts
 
-abbrev pub unless : Bool → List ℕ → List ℕ → List ℕ
-unless true t u = t
-unless false t u = u
-
 -- op= is a step's first line: only before it may the input end
 abbrev pub isFirst : Key → Bool
 isFirst k = eqb (rank k) 4
@@ -62,8 +59,8 @@ isFirst k = eqb (rank k) 4
 -- or, for a missing line or one without its line end, bad=.
 unfoldable pub ending : Progress → List ℕ → List ℕ
 ending p rest =
-    unless (p .over) []
-    (unless (isFirst (p .key) && eqb (length rest) 0) (numbered (bytes "end=") (p .steps)) (badText p))
+    cond (p .over) []
+    (cond (isFirst (p .key) && eqb (length rest) 0) (numbered (bytes "end=") (p .steps)) (badText p))
 
 unfoldable pub finished : Run → List ℕ → List ℕ
 finished r rest = r .said ++ ending (r .at) rest

@@ -1,5 +1,5 @@
 -- What one line does to a replay: document 01's "Bench replay".
-use mathlib.Core.Bool.{Bool, true, false}
+use mathlib.Core.Bool.{Bool, true, cond}
 use mathlib.Core.List.{List, _++_}
 use Prim.Native.Nat.{ℕ, _+_, _*_}
 use lib.Dec.{eqb, leb}
@@ -20,7 +20,7 @@ use Rattle.meaning.specs.Step.{Outcome, stepped}
 use Rattle.text.specs.declared.Number.{Number}
 use Rattle.text.specs.declared.Number.the-variants.{Is, Bad}
 use Rattle.text.specs.Text.{bytes}
-use Rattle.text.specs.Number.{choose, numbered}
+use Rattle.text.specs.Number.{numbered}
 use Rattle.keys.specs.declared.Key.{Key}
 use Rattle.keys.specs.declared.Key.the-variants as key
 use Rattle.keys.specs.Keys.{rank, after, fieldOf}
@@ -32,31 +32,15 @@ pub record Run : Type 0 where
   pub tables : Tables
   pub said : List ℕ
 
-abbrev pub either : Bool → Run → Run → Run
-either true r q = r
-either false r q = q
-
 -- The values, by rank: the shape's numbers, and a step's words and numbers.
-abbrev pub frame-by : Bool → Frame
-frame-by true = Dist
-frame-by false = Redist
-
-abbrev pub side-by : Bool → Side
-side-by true = Secure
-side-by false = NonSecure
-
-abbrev pub way-by : Bool → Way
-way-by true = Read
-way-by false = Write
-
 abbrev pub frameOf : ℕ → Frame
-frameOf n = frame-by (eqb n 0)
+frameOf n = cond (eqb n 0) Dist Redist
 
 abbrev pub sideOf : ℕ → Side
-sideOf n = side-by (eqb n 0)
+sideOf n = cond (eqb n 0) Secure NonSecure
 
 abbrev pub wayOf : ℕ → Way
-wayOf n = way-by (eqb n 0)
+wayOf n = cond (eqb n 0) Read Write
 
 unfoldable pub shapeOf : List ℕ → Shape
 shapeOf vs = record { lines = getD vs 0 0; espi = getD vs 1 0; eppi = getD vs 2 0; mbis = eqb (getD vs 3 0) 1 }
@@ -114,7 +98,7 @@ abbrev pub isLast : Key → Bool
 isLast k = eqb (rank k) 9
 
 unfoldable pub goodLine : Run → ℕ → Run
-goodLine r v = either (isLast (r .at .key)) (completed (kept r v)) (kept r v)
+goodLine r v = cond (isLast (r .at .key)) (completed (kept r v)) (kept r v)
 
 abbrev pub judged : Run → Number → Run
 judged r (Is v) = goodLine r v
@@ -123,4 +107,4 @@ judged r Bad = badLine r
 -- What one line does. Step 1,000,001 has no good line. After a bad line nothing is read.
 unfoldable pub lineRead : Run → List ℕ → Run
 lineRead r t =
-    either (r .at .over) r (judged r (choose (leb 1000000 (r .at .steps)) Bad (fieldOf (r .at .key) t)))
+    cond (r .at .over) r (judged r (cond (leb 1000000 (r .at .steps)) Bad (fieldOf (r .at .key) t)))

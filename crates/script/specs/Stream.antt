@@ -1,9 +1,9 @@
 -- The same replay as its input comes, byte by byte, in pieces of any size.
-use mathlib.Core.Bool.{Bool, true, false}
+use mathlib.Core.Bool.{Bool, cond}
 use mathlib.Core.List.{List, [], _∷_, _++_}
 use Prim.Native.Nat.{ℕ, _+_}
 use lib.Dec.{eqb, ltb, leb}
-use lib.ListN.{length, take}
+use lib.ListN.{length}
 use Rattle.script.specs.Run.{Run, lineRead}
 use Rattle.script.specs.Replay.{start, finished}
 
@@ -13,21 +13,13 @@ pub record Live : Type 0 where
   pub line : List ℕ
   pub most : ℕ
 
-abbrev pub when : Bool → Live → Live → Live
-when true l m = l
-when false l m = m
-
-abbrev pub lengthened : Bool → List ℕ → ℕ → List ℕ
-lengthened true t b = t ++ (b ∷ [])
-lengthened false t b = t
-
 -- A good line has 17 bytes at most, so that the first 18 of a line are enough to judge it.
 unfoldable pub pushed : ℕ → List ℕ → ℕ → List ℕ
-pushed most t b = lengthened (ltb (length t) most) t b
+pushed most t b = cond (ltb (length t) most) (t ++ (b ∷ [])) t
 
 unfoldable pub byteRead : Live → ℕ → Live
 byteRead l b =
-    when (eqb b 10) (record { run = lineRead (l .run) (l .line); line = []; most = l .most })
+    cond (eqb b 10) (record { run = lineRead (l .run) (l .line); line = []; most = l .most })
     (record { run = l .run; line = pushed (l .most) (l .line) b; most = l .most })
 
 unfoldable pub fed : Live → List ℕ → Live
@@ -45,17 +37,13 @@ pub record Fed : Type 0 where
   pub live : Live
   pub left : List ℕ
 
-abbrev pub goOn : Bool → Fed → Fed → Fed
-goOn true f g = f
-goOn false f g = g
-
 -- a byte is taken while the output leaves 128 bytes of the buffer free
 abbrev pub hasRoom : ℕ → Live → Bool
 hasRoom size l = leb (length (l .run .said) + 128) size
 
 unfoldable pub within : ℕ → Live → List ℕ → Fed
 within size l [] = record { live = l; left = [] }
-within size l (b ∷ bs) = goOn (hasRoom size l) (within size (byteRead l b) bs) (record { live = l; left = b ∷ bs })
+within size l (b ∷ bs) = cond (hasRoom size l) (within size (byteRead l b) bs) (record { live = l; left = b ∷ bs })
 
 -- l with nothing written yet: what was written before has been handed on
 unfoldable pub quiet : Live → Live

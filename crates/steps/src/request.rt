@@ -32,23 +32,18 @@ fn way_of(n: u32) -> Way
 pub fn shape_of(values: [u32; 10]) -> Shape
     ensures { λ r. ⌜ r ≡ shapeOf values ⌝ }
 {
-    Shape {
-        lines: values[0],
-        espi: values[1],
-        eppi: values[2],
-        mbis: values[3] == 1,
-    }
+    Shape::new(values[0], values[1], values[2], values[3] == 1)
 }
 
 pub fn request_of(values: [u32; 10]) -> Access
     ensures { λ r. ⌜ r ≡ requestOf values ⌝ }
 {
-    Access {
-        frame: frame_of(values[5]),
-        side: side_of(values[6]),
-        way: way_of(values[4]),
-        width: values[7],
-        offset: values[8],
-        value: values[9],
-    }
+    Access::new(
+        frame_of(values[5]),
+        side_of(values[6]),
+        way_of(values[4]),
+        values[7],
+        values[8],
+        values[9],
+    )
 }

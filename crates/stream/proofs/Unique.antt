@@ -8,21 +8,18 @@ use Rattle.meaning.specs.Layout.{Tables}
 use Rattle.script.specs.Stream.{Live, Fed}
 use Rattle.held.specs.declared.State.{State}
 use Rattle.held.specs.Held.{Held, heldIn, bytesHeld}
-use Rattle.stream.specs.Living.{liveOf, Taken}
+use Rattle.stream.specs.Living.{liveOf, AfterPiece}
 
--- what feed promises of one outcome, from the line buffer as h has it
-pub record Outcome (f : Fed) (h : Held) (piece b : List ℕ) (s : State) (t : Tables) (line : List ℕ) (used : ℕ) (b′ : List ℕ) (e : ℕ) : Type 0 where
-  pub taken : Taken f s t line piece used b b′ e
-  pub held : heldIn line (s .len) ≡ bytesHeld h (take used piece)
-
-module _ (f : Fed) (h : Held) (piece b : List ℕ) {s s₂ : State} {t t₂ : Tables} {line line₂ : List ℕ} {used used₂ : ℕ} {b′ b₂ : List ℕ} {e e₂ : ℕ}
-    (x : Outcome f h piece b s t line used b′ e) (y : Outcome f h piece b s₂ t₂ line₂ used₂ b₂ e₂) where
+module _ (f : Fed) (h : Held) (piece b : List ℕ)
+    {s s₂ : State} {t t₂ : Tables} {line line₂ : List ℕ} {used used₂ : ℕ} {b′ b₂ : List ℕ} {e e₂ : ℕ}
+    (x : AfterPiece f h s t line piece used b b′ e) (y : AfterPiece f h s₂ t₂ line₂ piece used₂ b b₂ e₂) where
   live : liveOf s t line b′ e ≡ liveOf s₂ t₂ line₂ b₂ e₂
   live = x .taken .live ∙ sym (y .taken .live)
 
   pub same-used : used ≡ used₂
   same-used =
-      let here : length piece - used ≡ length piece - used₂ = sym (length-drop used piece) ∙ (ap length (x .taken .left ∙ sym (y .taken .left)) ∙ length-drop used₂ piece) in
+      let here : length piece - used ≡ length piece - used₂ =
+      sym (length-drop used piece) ∙ (ap length (x .taken .left ∙ sym (y .taken .left)) ∙ length-drop used₂ piece) in
       omega (arith, here, x .taken .inside, y .taken .inside)
 
   said : take e b′ ≡ take e₂ b₂

@@ -1,12 +1,11 @@
 // A replay whose input comes in pieces of any size.
-ghost use mathlib.Core.Path.{_≡_};
 ghost use mathlib.Core.List.{[]};
 ghost use Prim.Native.Nat.{_+_, _≤_};
-ghost use lib.ListN.{length, take};
-ghost use Rattle.meaning.specs.Layout.{lent};
+ghost use lib.ListN.{length};
+ghost use Rattle.script.specs.Replay.{allPresent};
 ghost use Rattle.script.specs.Stream.{byteRead, within};
-ghost use Rattle.held.specs.Held.{heldIn, byteHeld, bytesHeld};
-ghost use Rattle.stream.specs.Living.{liveOf, Living, Taken};
+ghost use Rattle.held.specs.Held.{heldIn, byteHeld};
+ghost use Rattle.stream.specs.Living.{liveOf, AfterByte, AfterPiece};
 use crate::Fed;
 use crate::Passed;
 use held::State;
@@ -18,28 +17,23 @@ use lines::line::line_read;
 fn line_end(
     dist: &mut [u8],
     redist: &mut [u8],
-    dist_presence: &[u32],
-    redist_presence: &[u32],
     line: &[u8],
     out: &mut [u8],
     end: usize,
     s: State,
 ) -> Passed
     requires { ⌜ end + 128 ≤ length (now out) ⌝ }
-    ensures { λ r. ⌜ (Living (byteRead (liveOf s (lent (now (dist .entry)) (now (redist .entry)) (now («dist_presence» .entry)) (now («redist_presence» .entry))) (now (line .entry)) (now (out .entry)) end) 10) (r .state) (lent (now (dist .exit)) (now (redist .exit)) (now («dist_presence» .entry)) (now («redist_presence» .entry))) (now (line .entry)) (now (out .entry)) end (now (out .exit)) (r .end)) × (r .state .len ≡ 0) ⌝ }
+    ensures { λ r. ⌜
+        AfterByte
+        (byteRead (liveOf s (allPresent (now (dist .entry)) (now (redist .entry))) (now (line .entry)) (now (out .entry)) end) 10)
+        (byteHeld (heldIn (now (line .entry)) (s .len)) 10)
+        (r .state) (allPresent (now (dist .exit)) (now (redist .exit))) (now (line .entry))
+        (now (out .entry)) end (now (out .exit)) (r .end)
+        ⌝ }
 {
     let p = s.at;
     let len = s.len;
-    let told = line_read(
-        dist,
-        redist,
-        dist_presence,
-        redist_presence,
-        out,
-        end,
-        p,
-        first(line, len),
-    );
+    let told = line_read(dist, redist, out, end, p, first(line, len));
     let at = told.at;
     let state = State { at, len: 0 };
     Passed {
@@ -51,8 +45,6 @@ fn line_end(
 fn byte(
     dist: &mut [u8],
     redist: &mut [u8],
-    dist_presence: &[u32],
-    redist_presence: &[u32],
     line: &mut [u8],
     out: &mut [u8],
     end: usize,
@@ -60,19 +52,16 @@ fn byte(
     b: u8,
 ) -> Passed
     requires { ⌜ end + 128 ≤ length (now out) ⌝ }
-    ensures { λ r. ⌜ (Living (byteRead (liveOf s (lent (now (dist .entry)) (now (redist .entry)) (now («dist_presence» .entry)) (now («redist_presence» .entry))) (now (line .entry)) (now (out .entry)) end) b) (r .state) (lent (now (dist .exit)) (now (redist .exit)) (now («dist_presence» .entry)) (now («redist_presence» .entry))) (now (line .exit)) (now (out .entry)) end (now (out .exit)) (r .end)) × (heldIn (now (line .exit)) (r .state .len) ≡ byteHeld (heldIn (now (line .entry)) (s .len)) b) ⌝ }
+    ensures { λ r. ⌜
+        AfterByte
+        (byteRead (liveOf s (allPresent (now (dist .entry)) (now (redist .entry))) (now (line .entry)) (now (out .entry)) end) b)
+        (byteHeld (heldIn (now (line .entry)) (s .len)) b)
+        (r .state) (allPresent (now (dist .exit)) (now (redist .exit))) (now (line .exit))
+        (now (out .entry)) end (now (out .exit)) (r .end)
+        ⌝ }
 {
     if b == 10 {
-        return line_end(
-            dist,
-            redist,
-            dist_presence,
-            redist_presence,
-            line,
-            out,
-            end,
-            s,
-        );
+        return line_end(dist, redist, line, out, end, s);
     }
     let at = s.at;
     let len = push(line, s.len, b);
@@ -84,14 +73,19 @@ fn byte(
 pub fn feed(
     dist: &mut [u8],
     redist: &mut [u8],
-    dist_presence: &[u32],
-    redist_presence: &[u32],
     line: &mut [u8],
     out: &mut [u8],
     s: State,
     piece: &[u8],
 ) -> Fed
-    ensures { λ r. ⌜ (Taken (within (length (now (out .entry))) (liveOf s (lent (now (dist .entry)) (now (redist .entry)) (now («dist_presence» .entry)) (now («redist_presence» .entry))) (now (line .entry)) [] 0) (now (piece .entry))) (r .state) (lent (now (dist .exit)) (now (redist .exit)) (now («dist_presence» .entry)) (now («redist_presence» .entry))) (now (line .exit)) (now (piece .entry)) (r .used) (now (out .entry)) (now (out .exit)) (r .end)) × (heldIn (now (line .exit)) (r .state .len) ≡ bytesHeld (heldIn (now (line .entry)) (s .len)) (take (r .used) (now (piece .entry)))) ⌝ }
+    ensures { λ r. ⌜
+        AfterPiece
+        (within (length (now (out .entry)))
+        (liveOf s (allPresent (now (dist .entry)) (now (redist .entry))) (now (line .entry)) [] 0) (now (piece .entry)))
+        (heldIn (now (line .entry)) (s .len))
+        (r .state) (allPresent (now (dist .exit)) (now (redist .exit))) (now (line .exit))
+        (now (piece .entry)) (r .used) (now (out .entry)) (now (out .exit)) (r .end)
+        ⌝ }
 {
     let mut state = s;
     let mut end: usize = 0;
@@ -100,17 +94,7 @@ pub fn feed(
         if out.len() - end < 128 {
             return Fed { state, used, end };
         }
-        let passed = byte(
-            dist,
-            redist,
-            dist_presence,
-            redist_presence,
-            line,
-            out,
-            end,
-            state,
-            piece[used],
-        );
+        let passed = byte(dist, redist, line, out, end, state, piece[used]);
         state = passed.state;
         end = passed.end;
         used += 1;

@@ -1,6 +1,6 @@
 -- Numbers in text, digit by digit; what is too large, or too long, is none.
-use mathlib.Core.Path.{_≡_, refl, sym, ap}
-use mathlib.Core.Bool.{Bool, true, false}
+use mathlib.Core.Path.{_≡_, refl, sym}
+use mathlib.Core.Bool.{Bool, true, false, cond}
 use mathlib.Core.List.{List, [], _∷_, _++_}
 use Prim.Native.Nat.{ℕ, zero, suc, _+_, _*_, _-_, _/_, _%_, _^_, _<_, _≤_, zero-le}
 use native.Mathlib.Nat.{not-suc-le-zero, pow-succ', mul-assoc, mul-le-mul, mul-le-mul-right, pow-le-pow-right}
@@ -12,10 +12,10 @@ use lib.Seq.{drop-cons, drop-length}
 use borrow.Author.Tests.{lt-leb, lt-ltb, le-ltb, leb-true, eqb-false, ne-eqb}
 use Rattle.text.specs.declared.Number.{Number}
 use Rattle.text.specs.declared.Number.the-variants.{Bad}
-use Rattle.text.specs.Number.{choose, isDigit, limited, digitsAfter, unless, digitsOf, decimal, numbered, leadingZero, numberIn}
+use Rattle.text.specs.Number.{isDigit, limited, digitsAfter, digitsOf, decimal, numbered, leadingZero, numberIn}
 
 pub digits-step : (n : ℕ) (t : List ℕ) (i : ℕ) → i < length t
-    → digitsAfter n (drop i t) ≡ choose (isDigit (getD t i 0)) (digitsAfter (n * 10 + (getD t i 0 - 48)) (drop (i + 1) t)) Bad
+    → digitsAfter n (drop i t) ≡ cond (isDigit (getD t i 0)) (digitsAfter (n * 10 + (getD t i 0 - 48)) (drop (i + 1) t)) Bad
 unfolding digitsAfter
 digits-step n t i h = rw (add-one, drop-cons t i 0 h)
 
@@ -23,7 +23,7 @@ pub digits-end : (n : ℕ) (t : List ℕ) (i : ℕ) → i ≡ length t → digit
 unfolding digitsAfter
 digits-end n t i h = rw (h, drop-length)
 
-chosen : (b : Bool) {x y : Number} → x ≡ y → choose b x y ≡ y
+chosen : (b : Bool) {x y : Number} → x ≡ y → cond b x y ≡ y
 chosen true h = h
 chosen false h = refl
 
@@ -33,15 +33,15 @@ unfolding digitsAfter limited
 digits-big n [] h = rw (lt-leb n 4294967295 h)
 digits-big n (b ∷ t) h = chosen (isDigit b) (digits-big (n * 10 + (b - 48)) t (omega arith))
 
-length-unless : (b : Bool) (t : List ℕ) (k : ℕ) → length t ≤ k → length (unless b t) ≤ k
-length-unless true t k h = zero-le
-length-unless false t k h = h
+length-some : (b : Bool) (t : List ℕ) (k : ℕ) → length t ≤ k → length (cond b [] t) ≤ k
+length-some true t k h = zero-le
+length-some false t k h = h
 
 pub length-digits : (k n : ℕ) → length (digitsOf k n) ≤ k
 unfolding digitsOf
 length-digits zero n = zero-le
 length-digits (suc k) n =
-    let h = length-unless (ltb n 10) (digitsOf k (n / 10)) k (length-digits k (n / 10)) in
+    let h = length-some (ltb n 10) (digitsOf k (n / 10)) k (length-digits k (n / 10)) in
     simp length-append (omega arith)
 
 pub length-decimal : (n : ℕ) → length (decimal n) ≤ 20
@@ -95,7 +95,9 @@ number-long (b ∷ t) h = by (eqb b 48) refl
   where
     by : (x : Bool) → eqb b 48 ≡ x → numberIn (b ∷ t) ≡ Bad
     by true e = rw (ne-eqb (suc (length t)) 0 (omega arith), lt-ltb 1 (suc (length t)) (omega arith), e)
-    by false e = rw (ne-eqb (suc (length t)) 0 (omega arith), lt-ltb 1 (suc (length t)) (omega arith), e) (long-from b t e (omega arith))
+    by false e =
+        rw (ne-eqb (suc (length t)) 0 (omega arith), lt-ltb 1 (suc (length t)) (omega arith), e)
+        (long-from b t e (omega arith))
 
 pub length-numbered : (key : List ℕ) (n : ℕ) → length (numbered key n) ≤ length key + 21
 unfolding numbered

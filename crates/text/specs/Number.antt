@@ -1,5 +1,5 @@
 -- Numbers in text: decimal, at most 4294967295, no leading zeros.
-use mathlib.Core.Bool.{Bool, true, false, _&&_, _||_}
+use mathlib.Core.Bool.{Bool, cond, _&&_, _||_}
 use mathlib.Core.List.{List, [], _∷_, _++_}
 use Prim.Native.Nat.{ℕ, zero, suc, _+_, _*_, _-_, _/_, _%_}
 use lib.Dec.{eqb, ltb, leb}
@@ -7,36 +7,28 @@ use lib.ListN.{length, getD}
 use Rattle.text.specs.declared.Number.{Number}
 use Rattle.text.specs.declared.Number.the-variants.{Is, Bad}
 
-abbrev pub choose : Bool → Number → Number → Number
-choose true x y = x
-choose false x y = y
-
 abbrev pub isDigit : ℕ → Bool
 isDigit b = leb 48 b && leb b 57
 
 -- n, where it is at most the limit
 unfoldable pub limited : ℕ → ℕ → Number
-limited most n = choose (leb n most) (Is n) Bad
+limited most n = cond (leb n most) (Is n) Bad
 
 -- the number that the digits go on to write, n being what the digits before them write
 unfoldable pub digitsAfter : ℕ → List ℕ → Number
 digitsAfter n [] = limited 4294967295 n
-digitsAfter n (b ∷ bs) = choose (isDigit b) (digitsAfter (n * 10 + (b - 48)) bs) Bad
+digitsAfter n (b ∷ bs) = cond (isDigit b) (digitsAfter (n * 10 + (b - 48)) bs) Bad
 
 unfoldable pub leadingZero : List ℕ → Bool
 leadingZero t = ltb 1 (length t) && eqb (getD t 0 0) 48
 
 unfoldable pub numberIn : List ℕ → Number
-numberIn t = choose (eqb (length t) 0 || leadingZero t) Bad (digitsAfter 0 t)
-
-abbrev pub unless : Bool → List ℕ → List ℕ
-unless true t = []
-unless false t = t
+numberIn t = cond (eqb (length t) 0 || leadingZero t) Bad (digitsAfter 0 t)
 
 -- n in decimal, its last k digits at most, with no leading zeros
 unfoldable pub digitsOf : ℕ → ℕ → List ℕ
 digitsOf zero n = []
-digitsOf (suc k) n = unless (ltb n 10) (digitsOf k (n / 10)) ++ ((48 + n % 10) ∷ [])
+digitsOf (suc k) n = cond (ltb n 10) [] (digitsOf k (n / 10)) ++ ((48 + n % 10) ∷ [])
 
 -- twenty digits hold every number of 64 bits
 unfoldable pub decimal : ℕ → List ℕ

@@ -1,68 +1,27 @@
+-- `from_start` is `feed` from a replay's start: no step yet, and records 0.
 use denote.Ref.{now}
 use Rattle.bench.proofs.Wholes.{from-start}
 use borrow.Author.Needs.{needs}
 use Rattle.bench.proofs.from_start.Statement.{statement}
 use Rattle.bench.proofs.from_start.Tie as tie
 
-dist-records-requires : tie.Need-dist-records-requires
-dist-records-requires c κs = search needs
+-- the records that are lent to `feed`, and the entry
+abbrev made : tie.After-start → tie.After-redist-records
+made c = c .before .before .before .before .before
 
-redist-records-requires : tie.Need-redist-records-requires
-redist-records-requires c κs = search needs
-
-dist-present-requires : tie.Need-dist-present-requires
-dist-present-requires c κs = search needs
-
-redist-present-requires : tie.Need-redist-present-requires
-redist-present-requires c κs = search needs
-
-slice-aggregate-feed : tie.Need-slice-aggregate-feed
-slice-aggregate-feed c = search needs
-
-slice-aggregate-feed-2 : tie.Need-slice-aggregate-feed-2
-slice-aggregate-feed-2 c = search needs
-
-slice-aggregate-feed-3 : tie.Need-slice-aggregate-feed-3
-slice-aggregate-feed-3 c = search needs
-
-slice-aggregate-feed-4 : tie.Need-slice-aggregate-feed-4
-slice-aggregate-feed-4 c = search needs
-
-start-requires : tie.Need-start-requires
-start-requires c κs = search needs
-
-feed-requires : tie.Need-feed-requires
-feed-requires c κs = search needs
-
-same-length : tie.Need-same-length
-same-length c = search needs
-
-same-length-2 : tie.Need-same-length-2
-same-length-2 c = search needs
+abbrev entry : tie.After-redist-records → tie.Start
+entry c = c .before .before .before .before .before
 
 returns : tie.Need-returns
 returns c =
     let fed = c .before .before .before .before .before .before in
-    let made = fed .before .before .before .before .before .before .before .before in
-    let a = made .before .before .before .before .before .before .before .args in
-    from-start (now (a .line)) (fed .before .start .ensures) (made .before .before .before .dist-records .ensures)
-    (made .before .before .redist-records .ensures) (made .before .dist-present .ensures) (made .redist-present .ensures)
-    (made .before .before .before .before .before .before .before .pre) (now (a .input)) (now (a .out)) _ _ _ _ _ _ (fed .feed .ensures .0)
+    let m = made (fed .before) in
+    let e = entry m in
+    from-start (now (e .args .line)) (fed .before .start .ensures) (m .before .dist-records .ensures) (m .redist-records .ensures)
+    (e .pre) (now (e .args .input)) (now (e .args .out)) _ _ _ _ _ _ (fed .feed .ensures .taken)
 
 pub from-start-spec : {M : Type 1} → statement M
 from-start-spec =
     tie.close
-    (tie.spec
-    dist-records-requires
-    redist-records-requires
-    dist-present-requires
-    redist-present-requires
-    slice-aggregate-feed
-    slice-aggregate-feed-2
-    slice-aggregate-feed-3
-    slice-aggregate-feed-4
-    start-requires
-    feed-requires
-    same-length
-    same-length-2
-    returns)
+    (tie.spec (search needs) (search needs) (search needs) (search needs) (search needs) (search needs) (search needs)
+    (search needs) returns)

@@ -1,6 +1,9 @@
+-- `take` takes all of a piece: with room for a byte's output, `feed` takes at least one byte each time.
+-- Two ways out: a write failed (returns), and the piece's end (returns-2).
 use borrow.Author.Needs.{needs}
 use mathlib.Core.Path.{_≡_, refl, _∙_}
-use Prim.Native.Nat.{_-_, _≤_, _<_}
+use mathlib.Core.List.{List}
+use Prim.Native.Nat.{ℕ, _+_, _-_, _≤_, _<_}
 use native.Mathlib.Omega.{arith}
 use lib.ListN.{length, take, drop, length-take, length-drop}
 use denote.Ref.{now}
@@ -8,106 +11,82 @@ use Rattle.stream.proofs.Living.{taken-goes}
 use Rattle.replay.proofs.take.Statement.{statement}
 use Rattle.replay.proofs.take.Tie as tie
 
+-- The first `from` bytes are taken; ₀ is what was lent.
+record Going (dist₀ redist₀ line₀ out₀ piece dist redist line out : List ℕ) (from : ℕ) : Type 0 where
+  inside : from ≤ length piece
+  out-same : length out ≡ length out₀
+  dist-same : length dist ≡ length dist₀
+  redist-same : length redist ≡ length redist₀
+  line-same : length line ≡ length line₀
+
 abbrev Inv-loop : tie.InvT-loop
-Inv-loop dist₀ redist₀ dist-presence redist-presence line₀ out₀ piece state₀ from₀ dist redist line out state from = (from ≤ length piece) × (length out ≡ length out₀) × (length dist ≡ length dist₀) × (length redist ≡ length redist₀) × (length line ≡ length line₀)
+Inv-loop dist₀ redist₀ line₀ out₀ piece state₀ from₀ dist redist line out state from =
+    Going dist₀ redist₀ line₀ out₀ piece dist redist line out from
 
 abbrev μ-loop : tie.MeasureT-loop
-μ-loop dist₀ redist₀ dist-presence redist-presence line₀ out₀ piece state₀ from₀ dist redist line out state from = length piece - from
+μ-loop dist₀ redist₀ line₀ out₀ piece state₀ from₀ dist redist line out state from = length piece - from
+
+-- from `feed`'s answer back to the loop's turn and to the entry
+abbrev turn : tie.After-feed Inv-loop μ-loop → tie.In-loop Inv-loop μ-loop
+turn c = c .before .before .before .before .before .before
+
+abbrev entry : tie.In-loop Inv-loop μ-loop → tie.Start Inv-loop μ-loop
+entry c = c .before .before .before .before .before .before .before
+
+-- where the output is to be written, and once it is
+abbrev fed : tie.After-struct-known Inv-loop μ-loop → tie.After-feed Inv-loop μ-loop
+fed c = c .before .before .before .before .before .before .before .before .before .before
+
+abbrev written : tie.Else1 Inv-loop μ-loop → tie.After-struct-known Inv-loop μ-loop
+written c = c .before .before .before
 
 loop-holds : tie.Need-loop-holds Inv-loop μ-loop
-loop-holds c = (omega arith, refl, refl, refl, refl)
+loop-holds c = record { inside = omega arith; out-same = refl; dist-same = refl; redist-same = refl; line-same = refl }
 
-sub-feed : tie.Need-sub-feed Inv-loop μ-loop
-sub-feed c = search needs
-
-part-feed-start : tie.Need-part-feed-start Inv-loop μ-loop
-part-feed-start c = search needs
-
-part-feed-end : tie.Need-part-feed-end Inv-loop μ-loop
-part-feed-end c = search needs
-
-feed-requires : tie.Need-feed-requires Inv-loop μ-loop
-feed-requires c κs = search needs
+inside-still : (c : tie.After-feed Inv-loop μ-loop)
+    → turn c .before .loop .from + c .feed .result .used ≤ length (now (entry (turn c) .args .piece))
+inside-still c =
+    let h = simp (length-take, length-drop) at (c .feed .ensures .taken .inside) in
+    omega (arith, h, turn c .before .loop .inv .inside)
 
 add-from : tie.Need-add-from Inv-loop μ-loop
-add-from c = let h = simp (length-take, length-drop) at (c .before .before .before .before .before .before .before .before .before .before .feed .ensures .0 .inside) in omega (arith, h, c .before .before .before .before .before .before .before .before .before .before .before .before .before .before .before .before .before .loop .inv .0, c .before .before .before .before .before .before .before .before .before .before .before .before .before .before .before .before .before .before .before .before .before .before .before .before .before .good)
+add-from c = omega (arith, inside-still (fed c), entry (turn (fed c)) .good)
 
 slice-reshare-prefix-write-all : tie.Need-slice-reshare-prefix-write-all Inv-loop μ-loop
-slice-reshare-prefix-write-all c = c .before .before .before .before .before .before .before .before .before .before .feed .ensures .0 .fits
+slice-reshare-prefix-write-all c = fed c .feed .ensures .taken .fits
 
 slice-aggregate-write-all : tie.Need-slice-aggregate-write-all Inv-loop μ-loop
-slice-aggregate-write-all c = let h = c .before .before .before .before .before .before .before .before .before .before .before .feed .ensures .0 .fits in simp length-take (omega arith)
-
-write-all-requires : tie.Need-write-all-requires Inv-loop μ-loop
-write-all-requires c κs = search needs
-
-same-length : tie.Need-same-length Inv-loop μ-loop
-same-length c = search needs
-
-same-length-2 : tie.Need-same-length-2 Inv-loop μ-loop
-same-length-2 c = search needs
-
-same-length-3 : tie.Need-same-length-3 Inv-loop μ-loop
-same-length-3 c = search needs
-
-same-length-4 : tie.Need-same-length-4 Inv-loop μ-loop
-same-length-4 c = search needs
-
-returns : tie.Need-returns Inv-loop μ-loop
-returns c = search needs
+slice-aggregate-write-all c = let h = fed (c .before) .feed .ensures .taken .fits in simp length-take (omega arith)
 
 loop-less : tie.Need-loop-less Inv-loop μ-loop
 loop-less c =
-    let a = c .before .before .before .before .before .before .before .before .before .before .before .before .before .before .before .before .before .before .before .before .before .before .before .before .before .before .before .before .args in
-    let b = c .before .before .before .before .before .before .before .before .before .before .before .before .before .before .before .before .before .before .before .before in
-    let b2 = c .before .before .before .before .before .before .before .before .before .before .before .before .before .before .before .before .before .before .before in
-    let some : 0 < length (take (length (now (a .piece)) - b .loop .from) (drop (b .loop .from) (now (a .piece)))) = simp (length-take, length-drop) (omega (arith, b2 .loop-test .taken)) in let goes = taken-goes (b .loop .state) _ (b .loop .line) (take (length (now (a .piece)) - b .loop .from) (drop (b .loop .from) (now (a .piece)))) (b .loop .out) (c .before .before .before .before .before .before .before .before .before .before .before .before .before .feed .ensures .0) (omega (arith, b .loop .inv .1, c .before .before .before .before .before .before .before .before .before .before .before .before .before .before .before .before .before .before .before .before .before .before .before .before .before .before .before .before .pre)) some in omega (arith, b2 .loop-test .taken, goes)
+    let f = fed (written c) in
+    let l = turn f .before .loop in
+    let e = entry (turn f) in
+    let piece = now (e .args .piece) in
+    let some : 0 < length (take (length piece - l .from) (drop (l .from) piece)) =
+    simp (length-take, length-drop) (omega (arith, turn f .loop-test .taken)) in
+    let goes =
+    taken-goes (l .state) _ (l .line) (take (length piece - l .from) (drop (l .from) piece)) (l .out) (f .feed .ensures .taken)
+    (omega (arith, l .inv .out-same, e .pre)) some in
+    omega (arith, turn f .loop-test .taken, goes)
 
 loop-again : tie.Need-loop-again Inv-loop μ-loop
 loop-again c =
-    let b = c .before .before .before .before .before .before .before .before .before .before .before .before .before in
-    let b2 = c .before .before .before .before .before .before .before .before .before .before .before .before .before .before .before .before .before .before .before .before in
-    (let h = simp (length-take, length-drop) at (b .feed .ensures .0 .inside) in omega (arith, h, b2 .loop .inv .0), b .feed .kept .1 .1 .1 .1 .1 .0 ∙ b2 .loop .inv .1, b .feed .kept .0 ∙ b2 .loop .inv .2, b .feed .kept .1 .0 ∙ b2 .loop .inv .3, b .feed .kept .1 .1 .1 .1 .0 ∙ b2 .loop .inv .4)
-
-same-length-5 : tie.Need-same-length-5 Inv-loop μ-loop
-same-length-5 c = search needs
-
-same-length-6 : tie.Need-same-length-6 Inv-loop μ-loop
-same-length-6 c = search needs
-
-same-length-7 : tie.Need-same-length-7 Inv-loop μ-loop
-same-length-7 c = search needs
-
-same-length-8 : tie.Need-same-length-8 Inv-loop μ-loop
-same-length-8 c = search needs
-
-returns-2 : tie.Need-returns-2 Inv-loop μ-loop
-returns-2 c = search needs
+    let f = fed (written c) in
+    let kept = f .feed .kept in
+    let i = turn f .before .loop .inv in
+    record {
+      inside = inside-still f;
+      out-same = kept .1 .1 .1 .0 ∙ i .out-same;
+      dist-same = kept .0 ∙ i .dist-same;
+      redist-same = kept .1 .0 ∙ i .redist-same;
+      line-same = kept .1 .1 .0 ∙ i .line-same;
+    }
 
 pub take-spec : {M : Type 1} → statement M
 take-spec =
     tie.close
-    (tie.spec
-    Inv-loop
-    μ-loop
-    loop-holds
-    sub-feed
-    part-feed-start
-    part-feed-end
-    feed-requires
-    add-from
-    slice-reshare-prefix-write-all
-    slice-aggregate-write-all
-    write-all-requires
-    same-length
-    same-length-2
-    same-length-3
-    same-length-4
-    returns
-    loop-less
-    loop-again
-    same-length-5
-    same-length-6
-    same-length-7
-    same-length-8
-    returns-2)
+    (tie.spec Inv-loop μ-loop loop-holds (search needs) (search needs) (search needs) (search needs) add-from
+    slice-reshare-prefix-write-all slice-aggregate-write-all (search needs) (search needs) (search needs) (search needs)
+    (search needs) (search needs) loop-less loop-again (search needs) (search needs) (search needs) (search needs) (search needs))

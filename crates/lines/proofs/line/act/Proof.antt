@@ -1,32 +1,20 @@
+-- `act` is a step of the machine on tables where all interrupts are present: the arrays that it makes are `allPresent`'s words.
+use Rattle.script.specs.Replay.{allPresent}
 use borrow.Author.Needs.{needs}
 use Rattle.lines.proofs.line.act.Statement.{statement}
 use Rattle.lines.proofs.line.act.Tie as tie
 
-shape-of-requires : tie.Need-shape-of-requires
-shape-of-requires c κs = search needs
-
-request-of-requires : tie.Need-request-of-requires
-request-of-requires c κs = search needs
-
-access-requires : tie.Need-access-requires
-access-requires c κs = search needs
-
-same-length : tie.Need-same-length
-same-length c = search needs
-
-same-length-2 : tie.Need-same-length-2
-same-length-2 c = search needs
+-- what the controller was asked
+abbrev asked : tie.After-access → tie.After-request-of
+asked c = c .before .before .before .before .before
 
 returns : tie.Need-returns
-returns c = rw (← (c .before .before .before .before .before .before .before .before .shape-of .ensures), ← (c .before .before .before .before .before .before .before .request-of .ensures)) (c .before .before .before .before .access .ensures)
+unfolding allPresent
+returns c =
+    let answered = c .before .before .before .before in
+    rw (← (asked answered .before .shape-of .ensures), ← (asked answered .request-of .ensures)) (answered .access .ensures)
 
 pub act-spec : {M : Type 1} → statement M
 act-spec =
     tie.close
-    (tie.spec
-    shape-of-requires
-    request-of-requires
-    access-requires
-    same-length
-    same-length-2
-    returns)
+    (tie.spec (search needs) (search needs) (search needs) (search needs) (search needs) (search needs) (search needs) returns)

@@ -1,38 +1,28 @@
+-- `complete` reaches `completed`: the controller has acted, the step is counted, and its lines are put.
 use native.Mathlib.Omega.{arith}
 use Rattle.lines.proofs.Reaching.{reached-step}
 use borrow.Author.Needs.{needs}
 use Rattle.lines.proofs.line.complete.Statement.{statement}
 use Rattle.lines.proofs.line.complete.Tie as tie
 
-act-requires : tie.Need-act-requires
-act-requires c κs = search needs
+-- from the lines that are put back to the count, to the controller's answer, and to the entry
+abbrev counting : tie.After-put-step → tie.After-count
+counting c = c .before .before
 
-count-requires : tie.Need-count-requires
-count-requires c κs = search needs
+abbrev acting : tie.After-count → tie.After-act
+acting c = c .before .before .before .before .before
 
-put-step-requires : tie.Need-put-step-requires
-put-step-requires c κs = search needs
-
-same-length : tie.Need-same-length
-same-length c = search needs
-
-same-length-2 : tie.Need-same-length-2
-same-length-2 c = search needs
-
-same-length-3 : tie.Need-same-length-3
-same-length-3 c = search needs
+abbrev entry : tie.After-act → tie.Start
+entry c = c .before .before .before .before .before .before .before
 
 returns : tie.Need-returns
-returns c = let room = c .before .before .before .before .before .before .before .before .before .before .before .before .before .before .before .before .before .before .pre .0 in reached-step _ _ _ _ (omega arith) _ _ _ (c .before .before .before .before .count .ensures) (c .before .before .before .before .before .before .before .before .before .act .ensures) (c .before .before .put-step .ensures)
+returns c =
+    let put = c .before .before in
+    let n = counting put in
+    let room = entry (acting n) .pre .0 in
+    reached-step _ _ _ _ (omega arith) _ _ _ (n .count .ensures) (acting n .act .ensures) (put .put-step .ensures)
 
 pub complete-spec : {M : Type 1} → statement M
 complete-spec =
     tie.close
-    (tie.spec
-    act-requires
-    count-requires
-    put-step-requires
-    same-length
-    same-length-2
-    same-length-3
-    returns)
+    (tie.spec (search needs) (search needs) (search needs) (search needs) (search needs) (search needs) returns)

@@ -1,60 +1,41 @@
-use mathlib.Core.Path.{ap, _∙_}
+-- `byte`. Two ways out: a line's end (returns), and any other byte (returns-2), which is kept.
+use Prim.Native.Nat.{_≤_}
 use native.Mathlib.Omega.{arith}
-use lib.ListN.{take}
+use lib.ListN.{length}
 use denote.Ref.{now}
-use Rattle.held.specs.Held.{Held}
-use Rattle.held.proofs.Stored.{line-held, held-end, held-byte}
-use Rattle.stream.proofs.Living.{living-end, living-byte}
+use Rattle.stream.proofs.Living.{after-end, after-other}
 use borrow.Author.Needs.{needs}
 use Rattle.stream.proofs.piece.byte.Statement.{statement}
 use Rattle.stream.proofs.piece.byte.Tie as tie
 
-line-end-requires : tie.Need-line-end-requires
-line-end-requires c κs = search needs
+-- the entry, once the four lent slices are known
+abbrev entry : tie.After-slice-known4 → tie.Start
+entry c = c .before .before .before .before
 
-same-length : tie.Need-same-length
-same-length c = search needs
+abbrev ends : tie.After-line-end → tie.Then1
+ends c = c .before .before .before .before .before
 
-same-length-2 : tie.Need-same-length-2
-same-length-2 c = search needs
-
-same-length-3 : tie.Need-same-length-3
-same-length-3 c = search needs
-
-same-length-4 : tie.Need-same-length-4
-same-length-4 c = search needs
+abbrev other : tie.After-push → tie.Else1
+other c = c .before .before .before
 
 returns : tie.Need-returns
 returns c =
-    let a = c .before .before .before .before .before .before .before .before .before .before .before .before .before .before .before .before .before .before .args in
-    let e = c .before .before .before .before .before .before .line-end .ensures in
-    let ends = c .before .before .before .before .before .before .before .before .before .before .before .if1 .taken in
-    (living-end (a .s) _ (now (a .line)) _ _ _ _ _ ends (e .0), held-end (now (a .line)) (a .s .len) _ _ ends (e .1))
+    let told = c .before .before .before .before .before .before in
+    let a = entry (ends told .before) .args in
+    after-end (a .s) _ (now (a .line)) _ _ _ _ _ (ends told .if1 .taken) (told .line-end .ensures)
 
-push-requires : tie.Need-push-requires
-push-requires c κs = search needs
-
-same-length-5 : tie.Need-same-length-5
-same-length-5 c = search needs
+inside : (c : tie.Start) → c .args .end ≤ length (now (c .args .out))
+inside c = let room = c .pre in omega arith
 
 returns-2 : tie.Need-returns-2
 returns-2 c =
-    let a = c .before .before .before .before .before .before .before .before .before .before .before .before .args in
-    let room = c .before .before .before .before .before .before .before .before .before .before .before .before .pre in
-    let e = c .before .before .push .ensures in
-    let other = c .before .before .before .before .before .if1 .left in
-    (living-byte (a .s) _ (now (a .line)) _ _ _ _ _ other (omega arith) (c .before .before .push .kept .0) (ap (λ (h : Held). take (h .len) (h .line)) e ∙ line-held _ _), held-byte _ _ _ other e)
+    let kept = c .before .before in
+    let e = entry (other kept .before) in
+    after-other (e .args .s) _ (now (e .args .line)) _ _ _ _ _ (other kept .if1 .left) (inside e) (kept .push .kept .0)
+    (kept .push .ensures)
 
 pub byte-spec : {M : Type 1} → statement M
 byte-spec =
     tie.close
-    (tie.spec
-    line-end-requires
-    same-length
-    same-length-2
-    same-length-3
-    same-length-4
-    returns
-    push-requires
-    same-length-5
+    (tie.spec (search needs) (search needs) (search needs) (search needs) (search needs) returns (search needs) (search needs)
     returns-2)

@@ -1,31 +1,19 @@
-use mathlib.Core.Path.{refl}
+-- `line_end` is the byte that ends a line: what stands before it was read as a line.
 use denote.Ref.{now}
-use Rattle.stream.proofs.Living.{living-line}
+use Rattle.stream.proofs.Living.{after-line}
 use borrow.Author.Needs.{needs}
 use Rattle.stream.proofs.piece.line_end.Statement.{statement}
 use Rattle.stream.proofs.piece.line_end.Tie as tie
 
-first-requires : tie.Need-first-requires
-first-requires c κs = search needs
-
-line-read-requires : tie.Need-line-read-requires
-line-read-requires c κs = search needs
-
-same-length : tie.Need-same-length
-same-length c = search needs
-
-same-length-2 : tie.Need-same-length-2
-same-length-2 c = search needs
-
-same-length-3 : tie.Need-same-length-3
-same-length-3 c = search needs
+-- the entry, from where the line's bytes are taken
+abbrev entry : tie.After-first → tie.Start
+entry c = c .before .before .before .before .before .before .before .before .before
 
 returns : tie.Need-returns
 returns c =
-    let a = c .before .before .before .before .before .before .before .before .before .before .before .before .before .before .before .before .before .before .before .args in
-    (living-line (a .s) _ (now (a .line)) _ _ _ _ _ (c .before .before .before .before .before .before .before .before .first .ensures) (c .before .before .before .before .before .before .before .line-read .ensures), refl)
+    let told = c .before .before .before .before .before .before .before in
+    let a = entry (told .before) .args in
+    after-line (a .s) _ (now (a .line)) _ _ _ _ _ (told .before .first .ensures) (told .line-read .ensures)
 
 pub line-end-spec : {M : Type 1} → statement M
-line-end-spec =
-    tie.close
-    (tie.spec first-requires line-read-requires same-length same-length-2 same-length-3 returns)
+line-end-spec = tie.close (tie.spec (search needs) (search needs) (search needs) (search needs) (search needs) returns)
