@@ -1,10 +1,9 @@
 // A drawn step of a long random run, put to the controller (docs/SOAK.md).
-ghost use mathlib.Core.Path.{_≡_};
 ghost use Prim.Native.Nat.{_≤_};
-ghost use lib.ListN.{length, take};
 use draws::Request;
 use types::Access;
 use types::Answer;
+use types::Event;
 use types::Frame;
 use types::Shape;
 use types::Side;
@@ -30,25 +29,15 @@ fn access_of(q: Request) -> Access {
     Access::write(frame, side, q.width, q.offset, q.value)
 }
 
-fn happen(d: &mut [u8], r: &mut [u8], dp: &[u32], rp: &[u32], shape: Shape, q: Request) -> Answer {
+fn event_of(q: Request) -> Event {
     let side = side_of(q.side);
     if q.class == 33 {
-        return controller::wire(d, r, dp, rp, shape, q.intid, q.way == 1);
+        return Event::Wire(q.way == 1);
     }
     if q.class == 34 {
-        return controller::activate(d, r, dp, rp, shape, side, q.intid);
+        return Event::Activate(side);
     }
-    controller::deactivate(d, r, dp, rp, shape, side, q.intid)
-}
-
-fn apply(d: &mut [u8], r: &mut [u8], dp: &[u32], rp: &[u32], shape: Shape, q: Request) -> Answer {
-    if q.class < 33 {
-        return controller::access(d, r, dp, rp, shape, access_of(q));
-    }
-    if q.class == 36 {
-        return controller::reset(d, r, dp, rp, shape);
-    }
-    happen(d, r, dp, rp, shape, q)
+    Event::Deactivate(side)
 }
 
 // The length that a table is lent with: one short where `off` is `short`, one long where it is the number after.
@@ -64,16 +53,11 @@ fn lent(off: u32, short: u32, right: usize) -> usize {
     }
 }
 
-fn within_bytes(n: usize, b: &[u8]) -> usize
-    ensures { λ r. ⌜ (r ≤ length (now (b .entry))) × (length (take r (now (b .entry))) ≡ r) ⌝ }
+// The length, or all of a table that is shorter.
+fn within(n: usize, most: usize) -> usize
+    ensures { λ r. ⌜ r ≤ most ⌝ }
 {
-    if n <= b.len() { n } else { b.len() }
-}
-
-fn within_words(n: usize, b: &[u32]) -> usize
-    ensures { λ r. ⌜ (r ≤ length (now (b .entry))) × (length (take r (now (b .entry))) ≡ r) ⌝ }
-{
-    if n <= b.len() { n } else { b.len() }
+    if n <= most { n } else { most }
 }
 
 // A shape number, or one past its limit where `off` is `first`, or the largest there is where it is `second`.
@@ -103,10 +87,33 @@ pub fn ask(
     off: u32,
     q: Request,
 ) -> Answer {
-    let a = within_bytes(lent(off, 1, 2012), d);
-    let b = within_bytes(lent(off, 3, 96), r);
-    let c = within_words(lent(off, 5, 63), dp);
-    let e = within_words(lent(off, 7, 3), rp);
+    let a = within(lent(off, 1, 2012), d.len());
+    let b = within(lent(off, 3, 96), r.len());
+    let c = within(lent(off, 5, 63), dp.len());
+    let e = within(lent(off, 7, 3), rp.len());
     let seen = shape_off(shape, off);
-    apply(&mut d[..a], &mut r[..b], &dp[..c], &rp[..e], seen, q)
+    if q.class < 33 {
+        let access = access_of(q);
+        return controller::access(
+            &mut d[0..a],
+            &mut r[0..b],
+            &dp[0..c],
+            &rp[0..e],
+            seen,
+            access,
+        );
+    }
+    if q.class == 36 {
+        return controller::reset(&mut d[0..a], &mut r[0..b], &dp[0..c], &rp[0..e], seen);
+    }
+    let event = event_of(q);
+    controller::event(
+        &mut d[0..a],
+        &mut r[0..b],
+        &dp[0..c],
+        &rp[0..e],
+        seen,
+        q.intid,
+        event,
+    )
 }

@@ -3,6 +3,7 @@ use crate::print::answer;
 use crate::print::number;
 use types::Access;
 use types::Answer;
+use types::Event;
 use types::Frame;
 use types::Shape;
 use types::Side;
@@ -12,12 +13,17 @@ pub const ALL: u32 = 4294967295;
 
 const FEWER: u32 = 4294967294;
 
+// The bench shape.
+pub fn bench() -> Shape {
+    Shape::new(9, 4, 1, true)
+}
+
 fn wired(present: u32, shape: Shape, m: u32) -> Answer {
     let mut d = [0u8; 2012];
     let mut r = [0u8; 96];
     let dp = [present; 63];
     let rp = [present; 3];
-    controller::wire(&mut d, &mut r, &dp, &rp, shape, m, false)
+    controller::event(&mut d, &mut r, &dp, &rp, shape, m, Event::Wire(false))
 }
 
 fn accessed(present: u32, request: Access) -> Answer {
@@ -25,8 +31,7 @@ fn accessed(present: u32, request: Access) -> Answer {
     let mut r = [0u8; 96];
     let dp = [present; 63];
     let rp = [present; 3];
-    let shape = Shape::new(9, 4, 1, true);
-    controller::access(&mut d, &mut r, &dp, &rp, shape, request)
+    controller::access(&mut d, &mut r, &dp, &rp, bench(), request)
 }
 
 pub fn say_wire(lines: u32, espi: u32, eppi: u32, m: u32) {
@@ -45,7 +50,7 @@ pub fn wire(lines: u32, espi: u32, eppi: u32, m: u32) {
 // The same with the bench shape, the first interrupt of each word missing.
 pub fn fewer_wire(m: u32) {
     say_wire(9, 4, 1, m);
-    answer(wired(FEWER, Shape::new(9, 4, 1, true), m));
+    answer(wired(FEWER, bench(), m));
 }
 
 fn say_read(frame: u32, width: u32, offset: u32) {

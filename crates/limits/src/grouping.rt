@@ -1,10 +1,11 @@
 // Document 02, CR 2: an interrupt is Non-secure exactly when group is 1, whatever the modifier. Each case is a record of SPI 300, which
 // is slot 268 and bit 12 of word 9, and what is asked then; all other records are 0. 192 is both bits, 64 group and 128 modifier alone.
 use crate::fresh::ALL;
-use crate::lent::bench;
+use crate::fresh::bench;
 use crate::print::answer;
 use crate::print::number;
 use types::Access;
+use types::Event;
 use types::Frame;
 use types::Side;
 
@@ -54,33 +55,28 @@ fn written(record: u8, label: &[u8], request: Access, name: &[u8], at: u32) {
     answer(controller::access(&mut d, &mut r, &dp, &rp, bench(), then));
 }
 
-// The Non-secure side activates 300, and what it then reads.
-fn activated(record: u8) {
+// The Non-secure side activates or deactivates 300, and what it then reads.
+fn happened(record: u8, label: &[u8], event: Event) {
     let mut d = [0u8; 2012];
     let mut r = [0u8; 96];
     let dp = [ALL; 63];
     let rp = [ALL; 3];
     d[268] = record;
-    let side = Side::NonSecure;
-    say(record, b" Non-secure activates 300");
-    answer(controller::activate(&mut d, &mut r, &dp, &rp, bench(), side, 300));
+    say(record, label);
+    answer(controller::event(&mut d, &mut r, &dp, &rp, bench(), 300, event));
     io::write_all(1, b"then Non-secure reads ISACTIVER9");
-    let then = read(side, ISACTIVER9);
+    let then = read(Side::NonSecure, ISACTIVER9);
     answer(controller::access(&mut d, &mut r, &dp, &rp, bench(), then));
 }
 
+fn activated(record: u8) {
+    let event = Event::Activate(Side::NonSecure);
+    happened(record, b" Non-secure activates 300", event);
+}
+
 fn deactivated(record: u8) {
-    let mut d = [0u8; 2012];
-    let mut r = [0u8; 96];
-    let dp = [ALL; 63];
-    let rp = [ALL; 3];
-    d[268] = record;
-    let side = Side::NonSecure;
-    say(record, b" Non-secure deactivates 300");
-    answer(controller::deactivate(&mut d, &mut r, &dp, &rp, bench(), side, 300));
-    io::write_all(1, b"then Non-secure reads ISACTIVER9");
-    let then = read(side, ISACTIVER9);
-    answer(controller::access(&mut d, &mut r, &dp, &rp, bench(), then));
+    let event = Event::Deactivate(Side::NonSecure);
+    happened(record, b" Non-secure deactivates 300", event);
 }
 
 // The stored bits read back to the Secure side, and to no other.

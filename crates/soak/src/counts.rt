@@ -2,8 +2,10 @@
 // steps, four places a class: by side, and by read or write.
 use crate::print::field;
 use crate::print::line_end;
+use answers::status_of;
 use draws::Request;
 use std::num::wrapping_add_u64;
+use types::Answer;
 
 fn more(counts: &mut [u64], at: u32) {
     let i = at as usize;
@@ -12,7 +14,8 @@ fn more(counts: &mut [u64], at: u32) {
     }
 }
 
-pub fn count(counts: &mut [u64], q: Request, status: u32) {
+pub fn count(counts: &mut [u64], q: Request, answer: Answer) {
+    let status = status_of(answer);
     more(counts, status % 10);
     if status == 0 {
         more(
@@ -36,13 +39,17 @@ fn print_class(counts: &[u64], class: u32) {
     line_end();
 }
 
+fn print_status(counts: &[u64], status: u32) {
+    field(b"status=", status as u64);
+    field(b" steps=", at(counts, status as usize));
+    line_end();
+}
+
 fn print_statuses(counts: &[u64]) {
-    let mut i: u32 = 0;
-    while i < 10 {
-        field(b"status=", i as u64);
-        field(b" steps=", at(counts, i as usize));
-        line_end();
-        i += 1;
+    let mut status: u32 = 0;
+    while status < 10 {
+        print_status(counts, status);
+        status += 1;
     }
 }
 

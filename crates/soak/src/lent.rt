@@ -1,6 +1,6 @@
-// The lent bytes: filled for a starting table, and digested. Each table has one element more than it lends, for the steps that are
-// lent one too many; it is digested too.
-ghost use Prim.Native.Nat.{_+_, _≤_};
+// The four lent tables: filled for a start, and digested. Each has one element more than it lends, for
+// the steps that are lent one too many; it is digested too.
+ghost use Prim.Native.Nat.{_+_, _<_, _≤_};
 ghost use lib.ListN.{length};
 use dice::random::next;
 use dice::random::word;
@@ -64,26 +64,33 @@ fn four(b: &[u8], i: usize) -> u64
     wide(b[i]) | (wide(b[i + 1]) << 8) | (wide(b[i + 2]) << 16) | (wide(b[i + 3]) << 24)
 }
 
-// The bytes from `at` on, one by one.
-fn mix_rest(from: u64, b: &[u8], at: usize) -> u64 {
-    let mut x = from;
-    let mut i = at;
-    while i < b.len() {
-        x = next(x ^ wide(b[i]));
-        i += 1;
-    }
-    x
+// How many bytes are mixed at once: eight, and one by one what is left over.
+fn stride(left: usize) -> usize
+    requires { ⌜ 0 < left ⌝ }
+    ensures { λ r. ⌜ (0 < r) × (r ≤ left) ⌝ }
+{
+    if left < 8 { 1 } else { 8 }
 }
 
-// Eight bytes at a time; what is left over one by one.
+// The bytes from `i` on that are mixed at once, as a number.
+fn mixed(b: &[u8], i: usize) -> u64
+    requires { ⌜ i < length (now b) ⌝ }
+{
+    if b.len() - i < 8 {
+        return wide(b[i]);
+    }
+    four(b, i) | (four(b, i + 4) << 32)
+}
+
+// Adds a table to a digest. Mixing is a bijection, so tables that differ in one word have different digests.
 fn mix_records(from: u64, b: &[u8]) -> u64 {
     let mut x = from;
     let mut i: usize = 0;
-    while b.len() - i >= 8 {
-        x = next(x ^ four(b, i) ^ (four(b, i + 4) << 32));
-        i += 8;
+    while i < b.len() {
+        x = next(x ^ mixed(b, i));
+        i += stride(b.len() - i);
     }
-    mix_rest(x, b, i)
+    x
 }
 
 fn mix_presence(from: u64, b: &[u32]) -> u64 {
@@ -96,8 +103,11 @@ fn mix_presence(from: u64, b: &[u32]) -> u64 {
     x
 }
 
-// A digest of every byte of the four tables. Mixing is a bijection, so tables that differ in one word have different digests.
-pub fn digest(d: &[u8], r: &[u8], dp: &[u32], rp: &[u32]) -> u64 {
-    let records = mix_records(mix_records(1, d), r);
+// The digest of the record bytes, and after it that of all four tables.
+pub fn records_digest(d: &[u8; 2013], r: &[u8; 97]) -> u64 {
+    mix_records(mix_records(1, d), r)
+}
+
+pub fn presence_digest(records: u64, dp: &[u32; 64], rp: &[u32; 4]) -> u64 {
     mix_presence(mix_presence(records, dp), rp)
 }

@@ -3,7 +3,10 @@ use crate::print::field;
 use crate::print::hex;
 use crate::print::line_end;
 use crate::print::spaced;
+use answers::status_of;
+use answers::value_of;
 use draws::Request;
+use types::Answer;
 
 fn request(q: Request) {
     spaced(q.class);
@@ -16,15 +19,21 @@ fn request(q: Request) {
     spaced(q.intid);
 }
 
-pub fn show(number: u64, q: Request, off: u32, status: u32, value: u32) {
+// Where it is asked for (`on`).
+pub fn show(on: bool, number: u64, q: Request, off: u32, answer: Answer) {
+    if !on {
+        return;
+    }
     field(b"step ", number);
     request(q);
     spaced(off);
-    spaced(status);
-    spaced(value);
+    spaced(status_of(answer));
+    spaced(value_of(answer));
 }
 
-pub fn show_digest(tables: u64) {
-    hex(b" ", tables);
-    line_end();
+pub fn show_digest(on: bool, tables: u64) {
+    if on {
+        hex(b" ", tables);
+        line_end();
+    }
 }

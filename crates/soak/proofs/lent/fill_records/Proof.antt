@@ -1,7 +1,8 @@
+-- `fill_records` writes inside the table and ends: its length stays, and the place rises to it.
 use mathlib.Core.Path.{_≡_}
 use Prim.Native.Nat.{_≤_, _-_}
-use borrow.Author.Needs.{needs}
 use lib.ListN.{length}
+use borrow.Author.Needs.{needs}
 use Rattle.soak.proofs.lent.fill_records.Statement.{statement}
 use Rattle.soak.proofs.lent.fill_records.Tie as tie
 
@@ -11,45 +12,9 @@ Inv-loop b₀ mode from x₀ i₀ b x i = (length b ≡ length b₀) × (i ≤ l
 abbrev μ-loop : tie.MeasureT-loop
 μ-loop b₀ mode from x₀ i₀ b x i = length b₀ - i
 
-loop-holds : tie.Need-loop-holds Inv-loop μ-loop
-loop-holds c = search needs
-
-next-requires : tie.Need-next-requires Inv-loop μ-loop
-next-requires c κs = search needs
-
-record-requires : tie.Need-record-requires Inv-loop μ-loop
-record-requires c κs = search needs
-
-slice-write-b : tie.Need-slice-write-b Inv-loop μ-loop
-slice-write-b c = search needs
-
-add-i : tie.Need-add-i Inv-loop μ-loop
-add-i c = search needs
-
-loop-less : tie.Need-loop-less Inv-loop μ-loop
-loop-less c = search needs
-
-loop-again : tie.Need-loop-again Inv-loop μ-loop
-loop-again c = search needs
-
-same-length : tie.Need-same-length Inv-loop μ-loop
-same-length c = search needs
-
-returns : tie.Need-returns Inv-loop μ-loop
-returns c = search needs
-
 pub fill-records-spec : {M : Type 1} → statement M
 fill-records-spec =
     tie.close
-    (tie.spec
-    Inv-loop
-    μ-loop
-    loop-holds
-    next-requires
-    record-requires
-    slice-write-b
-    add-i
-    loop-less
-    loop-again
-    same-length
-    returns)
+    (tie.spec Inv-loop μ-loop
+    (λ c. search needs) (λ c κs. search needs) (λ c κs. search needs) (λ c. search needs) (λ c. search needs)
+    (λ c. search needs) (λ c. search needs) (λ c. search needs) (λ c. search needs))

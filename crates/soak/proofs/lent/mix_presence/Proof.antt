@@ -1,6 +1,7 @@
+-- `mix_presence` reads inside the table and ends: the place rises to its length.
 use Prim.Native.Nat.{_≤_, _-_}
-use borrow.Author.Needs.{needs}
 use lib.ListN.{length}
+use borrow.Author.Needs.{needs}
 use Rattle.soak.proofs.lent.mix_presence.Statement.{statement}
 use Rattle.soak.proofs.lent.mix_presence.Tie as tie
 
@@ -10,45 +11,9 @@ Inv-loop from b x₀ i₀ x i = i ≤ length b
 abbrev μ-loop : tie.MeasureT-loop
 μ-loop from b x₀ i₀ x i = length b - i
 
-loop-holds : tie.Need-loop-holds Inv-loop μ-loop
-loop-holds c = search needs
-
-mul-wide-word : tie.Need-mul-wide-word Inv-loop μ-loop
-mul-wide-word c = search needs
-
-shared-slice-read-wide-word : tie.Need-shared-slice-read-wide-word Inv-loop μ-loop
-shared-slice-read-wide-word c = search needs
-
-wide-word-requires : tie.Need-wide-word-requires Inv-loop μ-loop
-wide-word-requires c κs = search needs
-
-next-requires : tie.Need-next-requires Inv-loop μ-loop
-next-requires c κs = search needs
-
-add-i : tie.Need-add-i Inv-loop μ-loop
-add-i c = search needs
-
-loop-less : tie.Need-loop-less Inv-loop μ-loop
-loop-less c = search needs
-
-loop-again : tie.Need-loop-again Inv-loop μ-loop
-loop-again c = search needs
-
-returns : tie.Need-returns Inv-loop μ-loop
-returns c = search needs
-
 pub mix-presence-spec : {M : Type 1} → statement M
 mix-presence-spec =
     tie.close
-    (tie.spec
-    Inv-loop
-    μ-loop
-    loop-holds
-    mul-wide-word
-    shared-slice-read-wide-word
-    wide-word-requires
-    next-requires
-    add-i
-    loop-less
-    loop-again
-    returns)
+    (tie.spec Inv-loop μ-loop
+    (λ c. search needs) (λ c. search needs) (λ c. search needs) (λ c κs. search needs) (λ c κs. search needs)
+    (λ c. search needs) (λ c. search needs) (λ c. search needs) (λ c. search needs))
