@@ -9,10 +9,10 @@ use lib.ListN.{length, length-append}
 use borrow.Author.Tests.{le-leb}
 use Rattle.ended.specs.declared.Ended.the-variants.{Said}
 use Rattle.meaning.proofs.Choices.{cond-true}
-use Rattle.script.specs.Replay.{replayed}
-use Rattle.script.specs.Stream.{Live, Fed, byteRead, fed, startLive, closed, within, quiet}
-use Rattle.script.proofs.Prefixes.{closed-quiet}
-use Rattle.script.proofs.Lines.{streamed}
+use Rattle.replay_meaning.specs.Replay.{replayed}
+use Rattle.replay_meaning.specs.Stream.{Live, Fed, byteRead, fed, startLive, closed, within, quiet}
+use Rattle.replay_meaning.proofs.Prefixes.{closed-quiet}
+use Rattle.replay_meaning.proofs.Lines.{streamed}
 use Rattle.bench.specs.Whole.{enough, taken, wholeOf, wholeText}
 
 -- what was written up to here is no longer than what is written in the end

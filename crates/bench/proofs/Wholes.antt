@@ -15,17 +15,17 @@ use Rattle.meaning.proofs.Choices.{cond-true, cond-false}
 use Rattle.text.specs.Sheet.{Put}
 use Rattle.ended.specs.declared.Ended.{Ended}
 use Rattle.ended.specs.declared.Ended.the-variants.{Said, Full}
-use Rattle.script.specs.Replay.{allPresent, startTables, start, ending, finished, replayed}
-use Rattle.script.specs.Stream.{Live, fed, closed, startLive, within}
-use Rattle.script.proofs.Pieces.{within-fed}
-use Rattle.script.proofs.Lines.{streamed}
-use Rattle.held.specs.declared.State.{State}
-use Rattle.held.specs.Held.{startState}
-use Rattle.stream.specs.Living.{liveOf, Taken}
+use Rattle.replay_meaning.specs.Replay.{allPresent, startTables, start, ending, finished, replayed}
+use Rattle.replay_meaning.specs.Stream.{Live, fed, closed, startLive, within}
+use Rattle.replay_meaning.proofs.Pieces.{within-fed}
+use Rattle.replay_meaning.proofs.Lines.{streamed}
+use Rattle.replay_state.specs.declared.State.{State}
+use Rattle.replay_state.specs.Held.{startState}
+use Rattle.replay_stream.specs.Living.{liveOf, Taken}
 use Rattle.ended.specs.Ended.{over}
 use Rattle.bench.specs.Whole.{enough, taken, wholeOf, wholeText}
-use Rattle.lines.proofs.Reaching.{put-fits}
-use Rattle.stream.proofs.Living.{further}
+use Rattle.replay_lines.proofs.Reaching.{put-fits}
+use Rattle.replay_stream.proofs.Living.{further}
 
 -- a buffer by what stands before its end and after it
 written : (b : List ℕ) (e : ℕ) (t : List ℕ) (b′ : List ℕ) → take e b′ ≡ t → drop e b′ ≡ drop e b → e ≤ length b′

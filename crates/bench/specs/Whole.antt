@@ -4,8 +4,8 @@ use mathlib.Core.List.{List}
 use Prim.Native.Nat.{ℕ, _+_}
 use lib.Dec.{eqb, leb}
 use lib.ListN.{length}
-use Rattle.script.specs.Replay.{replayed}
-use Rattle.script.specs.Stream.{Fed, startLive, within}
+use Rattle.replay_meaning.specs.Replay.{replayed}
+use Rattle.replay_meaning.specs.Stream.{Fed, startLive, within}
 use Rattle.ended.specs.declared.Ended.{Ended}
 use Rattle.ended.specs.declared.Ended.the-variants.{Said, Full}
 

@@ -2,16 +2,16 @@
 ghost use mathlib.Core.Path.{_≡_};
 ghost use lib.ListN.{length};
 ghost use Rattle.ended.specs.Ended.{over};
-ghost use Rattle.stream.specs.Living.{Taken};
+ghost use Rattle.replay_stream.specs.Living.{Taken};
 ghost use Rattle.bench.specs.Whole.{taken, wholeOf, wholeText};
-use blank::dist_records;
-use blank::redist_records;
 use ended::Ended;
-use held::first;
-use held::start;
-use steps::answer::put_ending;
-use stream::Fed;
-use stream::piece::feed;
+use replay_state::first;
+use replay_state::start;
+use replay_steps::answer::put_ending;
+use replay_stream::Fed;
+use replay_stream::piece::feed;
+use replay_tables::dist_records;
+use replay_tables::redist_records;
 
 // The input from the start of a replay, as far as `out` has room.
 fn from_start(line: &mut [u8], out: &mut [u8], input: &[u8]) -> Fed

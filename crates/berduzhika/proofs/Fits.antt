@@ -34,8 +34,8 @@ use Rattle.meaning.specs.Step.{Cells, typer, wordRead, read, accessAnswer, answ
 use Rattle.meaning.proofs.Bytes.{digit-small}
 use Rattle.meaning.proofs.After.{well-shape}
 use Rattle.meaning.proofs.Listed.{visible-small}
-use Rattle.families.specs.Fits.{Fits}
-use Rattle.spans.proofs.Ranges.{limits}
+use Rattle.register_families.specs.Fits.{Fits}
+use Rattle.table_spans.proofs.Ranges.{limits}
 use Rattle.engine.specs.Target.{FitsAt}
 use Rattle.controller.proofs.Places.{target-fits}
 

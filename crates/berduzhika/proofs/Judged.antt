@@ -8,7 +8,7 @@ use Rattle.types.specs.declared.Answer.{Answer}
 use Rattle.meaning.specs.Layout.{Tables}
 use Rattle.meaning.specs.Rule.{Step}
 use Rattle.meaning.specs.Step.{Outcome, stepped}
-use Rattle.numbers.specs.Code.{codeOf, shut}
+use Rattle.abi_numbers.specs.Code.{codeOf, shut}
 use Rattle.berduzhika.specs.Told.{Told, told, judged}
 
 -- Before the gate. `tested` is what the code found of the request's numbers.

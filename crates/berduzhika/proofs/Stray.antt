@@ -11,8 +11,8 @@ use Rattle.types.specs.declared.Side.{Side}
 use Rattle.types.specs.declared.Side.the-variants.{Secure, NonSecure}
 use Rattle.meaning.specs.Layout.{Tables}
 use Rattle.meaning.specs.Rule as step
-use Rattle.numbers.specs.Numbers.{oneOrTwo, zeroOrOne, sideOf, shapeOf, requestOf}
-use Rattle.numbers.specs.Code.{joined, shut}
+use Rattle.abi_numbers.specs.Numbers.{oneOrTwo, zeroOrOne, sideOf, shapeOf, requestOf}
+use Rattle.abi_numbers.specs.Code.{joined, shut}
 use Rattle.berduzhika.specs.Told.{Told, judged, accessTold, activateTold, deactivateTold}
 
 weight : Side → ℕ

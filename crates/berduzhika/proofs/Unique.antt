@@ -13,7 +13,7 @@ use Rattle.meaning.specs.Answers.{number, statusOf, valueOf}
 use Rattle.meaning.specs.Layout.{Tables}
 use Rattle.meaning.specs.Rule.{Step}
 use Rattle.meaning.specs.Step.{stepped}
-use Rattle.numbers.specs.Code.{joined, codeOf, statusIn, valueIn}
+use Rattle.abi_numbers.specs.Code.{joined, codeOf, statusIn, valueIn}
 use Rattle.berduzhika.specs.Told.{Told, told, judged}
 use Rattle.berduzhika.proofs.Fits.{value-fits}
 

@@ -7,8 +7,8 @@ use Rattle.types.specs.declared.Event.the-variants.{Wire, Activate, Deactivate}
 use Rattle.meaning.specs.Layout.{Tables}
 use Rattle.meaning.specs.Rule as step
 use Rattle.meaning.specs.Step.{Outcome, stepped}
-use Rattle.numbers.specs.Code.{codeOf, shut}
-use Rattle.numbers.specs.Numbers.{oneOrTwo, zeroOrOne, sideOf, shapeOf, requestOf}
+use Rattle.abi_numbers.specs.Code.{codeOf, shut}
+use Rattle.abi_numbers.specs.Numbers.{oneOrTwo, zeroOrOne, sideOf, shapeOf, requestOf}
 
 pub record Told : Type 0 where
   pub code : ℕ

@@ -10,17 +10,17 @@
 ghost use mathlib.Core.Path.{_≡_};
 ghost use Rattle.meaning.specs.Layout.{lent};
 ghost use Rattle.berduzhika.specs.Told.{accessTold, wireTold, activateTold, deactivateTold, resetTold};
+use abi_numbers::code_of;
+use abi_numbers::gate;
+use abi_numbers::names_access;
+use abi_numbers::one_or_two;
+use abi_numbers::request_of;
+use abi_numbers::shape_of;
+use abi_numbers::side_of;
+use abi_numbers::zero_or_one;
 use controller::access;
 use controller::event;
 use controller::reset;
-use numbers::code_of;
-use numbers::gate;
-use numbers::names_access;
-use numbers::one_or_two;
-use numbers::request_of;
-use numbers::shape_of;
-use numbers::side_of;
-use numbers::zero_or_one;
 use types::Event;
 
 // A read or a write of `width` bytes at an offset of a frame. A read ignores `value`.

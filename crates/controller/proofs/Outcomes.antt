@@ -34,8 +34,8 @@ use Rattle.meaning.specs.Rule.{Step, access, happens, reset, Deed, idle, happen
 use Rattle.meaning.specs.Step.{read, accessAnswer, answer, tablesWhere, tablesAfter, stepped}
 use Rattle.meaning.proofs.Choices.{cond-true, cond-false}
 use Rattle.meaning.proofs.After.{well-shape, well-lengths}
-use Rattle.spans.specs.Span.{spanOf}
-use Rattle.spans.proofs.Spanned.{Spanned, spanned}
+use Rattle.table_spans.specs.Span.{spanOf}
+use Rattle.table_spans.proofs.Spanned.{Spanned, spanned}
 use Rattle.engine.specs.Bank.{Happened, zeroed}
 use Rattle.engine.specs.Target.{frameAt, NumberedAt, readAt, inBank, writtenAt, Served}
 use Rattle.engine.proofs.Banks.{after, unaimed-bank, idle-bank}

@@ -15,7 +15,7 @@ use Rattle.types.specs.declared.Decoded.the-variants.{At}
 use Rattle.meaning.specs.Layout.{Tables, recordsOf, presenceOf, presenceWords, wellFormed}
 use Rattle.meaning.specs.Registers.{placeOf, targetOf}
 use Rattle.meaning.proofs.After.{well-shape, well-lengths, records-length, presence-length}
-use Rattle.decoder.proofs.Windows.{Aimed, placed-aimed}
+use Rattle.register_decoder.proofs.Windows.{Aimed, placed-aimed}
 use Rattle.engine.specs.Bank.{Bank}
 use Rattle.engine.specs.Target.{frameAt, FitsAt, Room, NumberedAt}
 use Rattle.engine.proofs.Targets.{interruptsOf}

@@ -1,11 +1,11 @@
 // The end of a replay.
 ghost use mathlib.Core.Path.{_≡_};
 ghost use lib.ListN.{length, take};
-ghost use Rattle.script.specs.Replay.{ending};
+ghost use Rattle.replay_meaning.specs.Replay.{ending};
 ghost use Rattle.ended.specs.Ended.{endedOf, endedText, over};
-use held::State;
-use held::first;
-use steps::answer::put_ending;
+use replay_state::State;
+use replay_state::first;
+use replay_steps::answer::put_ending;
 
 // How a replay ends: the first bytes of the output are all that is to be written, or the output had no room for it.
 pub enum Ended {

@@ -30,8 +30,8 @@ use Rattle.meaning.proofs.Sides.{isClear}
 use Rattle.meaning.proofs.Gates.{missing-left}
 use Rattle.meaning.proofs.Aims.{unaimed-left}
 use Rattle.meaning.proofs.After.{records-length, record-of, cell-present, slot-cell}
-use Rattle.spans.specs.declared.Span.{Span}
-use Rattle.spans.proofs.Spanned.{Spanned}
+use Rattle.table_spans.specs.declared.Span.{Span}
+use Rattle.table_spans.proofs.Spanned.{Spanned}
 use Rattle.engine.specs.Bank.{cellIn, onSlot}
 
 -- THE RECORDS of a frame after a deed

@@ -31,9 +31,9 @@ use Rattle.meaning.specs.Step.{column}
 use Rattle.meaning.proofs.Choices.{cond-true, cond-false}
 use Rattle.meaning.proofs.Bytes.{encode-decode}
 use Rattle.meaning.proofs.Aims.{same-true, same-self, addressed}
-use Rattle.messages.specs.Delivered.{delivered}
-use Rattle.spans.specs.declared.Span.{Span}
-use Rattle.spans.proofs.Spanned.{Spanned}
+use Rattle.record_messages.specs.Delivered.{delivered}
+use Rattle.table_spans.specs.declared.Span.{Span}
+use Rattle.table_spans.proofs.Spanned.{Spanned}
 use Rattle.engine.specs.Bank.{cellIn, onSlot, sentIn, eventful, answerIn, zeroed}
 use Rattle.engine.proofs.Banks.{after, unaimed-bank, cell-here, missing-here, one-meant}
 

@@ -19,9 +19,9 @@ use Rattle.meaning.specs.Registers.{names}
 use Rattle.meaning.specs.Rule.{Deed, write, send, writeTo, addresses, aims}
 use Rattle.meaning.specs.Step.{read}
 use Rattle.meaning.proofs.After.{well-shape, well-lengths}
-use Rattle.families.specs.Fits.{Fits}
-use Rattle.spans.specs.Span.{spanOf}
-use Rattle.spans.proofs.Spanned.{Spanned, spanned}
+use Rattle.register_families.specs.Fits.{Fits}
+use Rattle.table_spans.specs.Span.{spanOf}
+use Rattle.table_spans.proofs.Spanned.{Spanned, spanned}
 use Rattle.engine.specs.Bank.{windowSpan, readIn, writtenIn}
 use Rattle.engine.specs.Target.{frameAt, FitsAt, readAt, inBank, writtenAt}
 use Rattle.engine.proofs.Banks.{after, unaimed-bank, idle-bank}

@@ -28,12 +28,12 @@ use Rattle.meaning.specs.Registers.{bitsOf}
 use Rattle.meaning.specs.Rule.{eventAnswer, isDone, happened}
 use Rattle.meaning.proofs.Choices.{cond-true, cond-false}
 use Rattle.meaning.proofs.Bytes.{encode-decode}
-use Rattle.families.specs.Fits.{Fits}
-use Rattle.messages.specs.Delivered.{delivered}
-use Rattle.words.specs.Part.{Fitting, Numbered}
-use Rattle.spans.specs.declared.Span.{Span}
-use Rattle.spans.specs.Span.{spanOf}
-use Rattle.spans.proofs.Spanned.{Bounded, bounded}
+use Rattle.register_families.specs.Fits.{Fits}
+use Rattle.record_messages.specs.Delivered.{delivered}
+use Rattle.table_words.specs.Part.{Fitting, Numbered}
+use Rattle.table_spans.specs.declared.Span.{Span}
+use Rattle.table_spans.specs.Span.{spanOf}
+use Rattle.table_spans.proofs.Spanned.{Bounded, bounded}
 use Rattle.engine.specs.Bank.{Bank, part, wordOf, cellIn, onSlot, sentIn, eventful, answerIn, Happened}
 
 -- ITS BOUNDS

@@ -33,10 +33,10 @@ use Rattle.meaning.proofs.Homes.{between-in}
 use Rattle.meaning.proofs.Gates.{missing-left, missing-unseen}
 use Rattle.meaning.proofs.Aims.{unaimed-left, named-here, named-low, named-high}
 use Rattle.meaning.proofs.After.{records-length, cell-present, slot-cell}
-use Rattle.writes.specs.Touched.{touched}
-use Rattle.words.specs.Part.{shownAt, gathered, storedAt, stored}
-use Rattle.spans.specs.declared.Span.{Span}
-use Rattle.spans.proofs.Spanned.{Spanned}
+use Rattle.record_writes.specs.Touched.{touched}
+use Rattle.table_words.specs.Part.{shownAt, gathered, storedAt, stored}
+use Rattle.table_spans.specs.declared.Span.{Span}
+use Rattle.table_spans.proofs.Spanned.{Spanned}
 use Rattle.engine.specs.Bank.{part, wordOf, readIn, writtenIn}
 use Rattle.engine.proofs.Banks.{after, same-slot, number-at}
 

@@ -18,11 +18,11 @@ use Rattle.meaning.specs.Interrupt.{Interrupt}
 use Rattle.meaning.specs.Cell.{Cell, decode, encode}
 use Rattle.meaning.specs.Layout.{slots, presenceWords, shapeFits}
 use Rattle.meaning.specs.Rule.{eventAnswer, isDone, happened}
-use Rattle.messages.specs.Delivered.{delivered}
-use Rattle.words.specs.declared.Word.{Word}
-use Rattle.words.specs.Part.{gathered, stored}
-use Rattle.spans.specs.declared.Span.{Span}
-use Rattle.spans.specs.Span.{spanOf}
+use Rattle.record_messages.specs.Delivered.{delivered}
+use Rattle.table_words.specs.declared.Word.{Word}
+use Rattle.table_words.specs.Part.{gathered, stored}
+use Rattle.table_spans.specs.declared.Span.{Span}
+use Rattle.table_spans.specs.Span.{spanOf}
 
 -- the records and presence words of a frame, of a shape that fits
 pub record Bank (s : Shape) (f : Frame) (records presence : List ℕ) : Type 0 where

@@ -18,9 +18,9 @@ use Rattle.meaning.specs.Interrupt.{Interrupt}
 use Rattle.meaning.specs.Layout.{lent, recordsOf, slots, presenceWords, shapeFits}
 use Rattle.meaning.specs.Registers.{writtenValue}
 use Rattle.meaning.specs.Step.{typer}
-use Rattle.families.specs.Fits.{Fits}
-use Rattle.words.specs.Part.{Numbered}
-use Rattle.spans.specs.Span.{spanOf}
+use Rattle.register_families.specs.Fits.{Fits}
+use Rattle.table_words.specs.Part.{Numbered}
+use Rattle.table_spans.specs.Span.{spanOf}
 use Rattle.engine.specs.Bank.{windowSpan, readIn, writtenIn, sentIn}
 
 -- the frame whose bank a target is in

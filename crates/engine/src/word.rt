@@ -5,18 +5,18 @@ ghost use Prim.Native.Nat.{ℕ, _-_, _≤_};
 ghost use lib.ListN.{length, take, drop};
 ghost use Rattle.meaning.specs.Interrupt.{Interrupt};
 ghost use Rattle.meaning.specs.Layout.{lent, recordsOf};
-ghost use Rattle.families.specs.Fits.{Fits};
-ghost use Rattle.words.specs.Part.{Numbered};
+ghost use Rattle.register_families.specs.Fits.{Fits};
+ghost use Rattle.table_words.specs.Part.{Numbered};
 ghost use Rattle.engine.specs.Bank.{Bank, windowSpan, readIn, writtenIn};
-use spans::Span;
-use spans::span_of;
+use table_spans::Span;
+use table_spans::span_of;
+use table_words::Word;
+use table_words::gather;
+use table_words::store;
 use types::Frame;
 use types::Shape;
 use types::Side;
 use types::Window;
-use words::Word;
-use words::gather;
-use words::store;
 
 // The records of a span, as a part of whichever table holds them.
 fn part<'a>(dist: &'a [u8], redist: &'a [u8], frame: Frame, span: Span) -> &'a [u8]

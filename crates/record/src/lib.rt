@@ -8,7 +8,7 @@ ghost use Rattle.types.specs.declared.Way.{Way};
 ghost use Rattle.meaning.specs.Interrupt.{Interrupt, sgi};
 ghost use Rattle.meaning.specs.Cell.{decode, nonSecure, edgeOf, pending};
 ghost use Rattle.meaning.specs.Rule.{sees, secureKind, mayTouch, stateOf, guarded, shows, visible};
-use bits::has;
+use record_bits::has;
 use types::Bit;
 use types::Guard;
 use types::Kind;

@@ -4,16 +4,16 @@
 // short is not taken for a whole one.
 ghost use Prim.Native.Nat.{_≤_};
 ghost use lib.ListN.{length};
-use blank::dist_records;
-use blank::redist_records;
 use ended::Ended;
 use ended::finish;
-use held::State;
-use held::start;
 use libc::STDERR_FILENO;
 use libc::STDIN_FILENO;
 use libc::STDOUT_FILENO;
-use stream::piece::feed;
+use replay_state::State;
+use replay_state::start;
+use replay_stream::piece::feed;
+use replay_tables::dist_records;
+use replay_tables::redist_records;
 
 // What a turn leaves: the state, whether there may be more to read, and whether a read or a write failed.
 struct After {

@@ -11,7 +11,7 @@ use Rattle.types.specs.declared.Decoded.the-variants as decoded
 use Rattle.meaning.specs.Layout.{Tables, lent, presenceOf, wellFormed}
 use Rattle.meaning.specs.Registers.{placeOf}
 use Rattle.meaning.specs.Rule.{access}
-use Rattle.decoder.proofs.Windows.{placed-number}
+use Rattle.register_decoder.proofs.Windows.{placed-number}
 use Rattle.engine.specs.Target.{Room}
 use Rattle.controller.proofs.Places.{target-room}
 use Rattle.controller.proofs.Outcomes.{ill, access-refused, access-served}

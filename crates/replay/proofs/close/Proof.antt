@@ -2,7 +2,7 @@ use mathlib.Core.Path.{sym, _∙_}
 use native.Mathlib.Omega.{arith}
 use lib.ListN.{take, length-take}
 use denote.Ref.{now}
-use Rattle.script.specs.Replay.{ending}
+use Rattle.replay_meaning.specs.Replay.{ending}
 use Rattle.ended.proofs.Ending.{said-fits}
 use borrow.Author.Needs.{needs}
 use Rattle.replay.proofs.close.Statement.{statement}

@@ -1,8 +1,8 @@
 -- `happen` is the event at the slot that the span of its INTID has (returns), and refusal 7 where it has none (returns-2).
 use denote.Ref.{now}
 use native.Mathlib.Omega.{arith}
-use Rattle.spans.specs.declared.Span.{Span}
-use Rattle.spans.proofs.Spanned.{Bounded}
+use Rattle.table_spans.specs.declared.Span.{Span}
+use Rattle.table_spans.proofs.Spanned.{Bounded}
 use Rattle.engine.proofs.Uses.{asked, happened-slot, happened-none}
 use borrow.Author.Needs.{needs}
 use Rattle.engine.proofs.event.happen.Statement.{statement}

@@ -6,9 +6,9 @@ use denote.Ref.{now}
 use native.Mathlib.Omega.{arith}
 use lib.ListN.{set}
 use Rattle.types.specs.declared.Frame.the-variants.{Dist}
-use Rattle.spans.specs.declared.Span.{Span}
-use Rattle.spans.proofs.Spanned.{Bounded}
-use Rattle.messages.specs.Delivered.{delivered}
+use Rattle.table_spans.specs.declared.Span.{Span}
+use Rattle.table_spans.proofs.Spanned.{Bounded}
+use Rattle.record_messages.specs.Delivered.{delivered}
 use Rattle.engine.specs.Bank.{sentIn}
 use Rattle.engine.proofs.Uses.{asked, at-slot, at-none, sent-off, sent-on}
 use borrow.Author.Needs.{needs}

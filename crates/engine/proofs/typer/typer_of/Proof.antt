@@ -4,7 +4,7 @@ use native.Mathlib.Omega.{arith}
 use lib.Dec.{ltb}
 use Rattle.meaning.specs.Step.{typer}
 use Rattle.meaning.proofs.Bytes.{digit-small}
-use Rattle.spans.proofs.Ranges.{limits}
+use Rattle.table_spans.proofs.Ranges.{limits}
 use borrow.Author.Needs.{needs}
 use Rattle.engine.proofs.typer.typer_of.Statement.{statement}
 use Rattle.engine.proofs.typer.typer_of.Tie as tie

@@ -6,9 +6,9 @@ use denote.Ref.{now}
 use lib.ListN.{length}
 use Rattle.types.specs.declared.Window.{Window}
 use Rattle.meaning.specs.Layout.{lent, recordsOf}
-use Rattle.words.specs.Part.{Fitting, Numbered, gathered}
-use Rattle.spans.specs.declared.Span.{Span}
-use Rattle.spans.proofs.Spanned.{Bounded}
+use Rattle.table_words.specs.Part.{Fitting, Numbered, gathered}
+use Rattle.table_spans.specs.declared.Span.{Span}
+use Rattle.table_spans.proofs.Spanned.{Bounded}
 use Rattle.engine.specs.Bank.{part, wordOf, readIn}
 use Rattle.engine.proofs.Uses.{asked, end-inside, fewer, fitting}
 use borrow.Author.Needs.{needs}

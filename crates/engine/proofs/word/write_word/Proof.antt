@@ -5,8 +5,8 @@ use Prim.Native.Nat.{ℕ, _-_}
 use denote.Ref.{now}
 use lib.ListN.{take, drop}
 use Rattle.types.specs.declared.Window.{Window}
-use Rattle.spans.specs.declared.Span.{Span}
-use Rattle.spans.proofs.Spanned.{Bounded}
+use Rattle.table_spans.specs.declared.Span.{Span}
+use Rattle.table_spans.proofs.Spanned.{Bounded}
 use Rattle.engine.specs.Bank.{writtenIn}
 use Rattle.engine.proofs.Uses.{asked, end-inside, fewer, fitting}
 use borrow.Author.Needs.{needs}

@@ -1,0 +1,29 @@
+use native.Mathlib.Omega.{arith}
+use Rattle.replay_meaning.specs.Run.{lineNumber}
+use Rattle.replay_keys.proofs.Fields.{rank-small}
+use borrow.Author.Needs.{needs}
+use Rattle.replay_steps.proofs.answer.line_number.Statement.{statement}
+use Rattle.replay_steps.proofs.answer.line_number.Tie as tie
+
+rank-requires : tie.Need-rank-requires
+rank-requires c κs = search needs
+
+cast-result : tie.Need-cast-result
+cast-result c = search needs
+
+mul-result : tie.Need-mul-result
+mul-result c = search needs
+
+add-result : tie.Need-add-result
+add-result c = omega (arith, c .before .rank .ensures, rank-small (c .before .before .args .p .key))
+
+add-result-2 : tie.Need-add-result-2
+add-result-2 c = omega (arith, c .before .rank .ensures, rank-small (c .before .before .args .p .key))
+
+returns : tie.Need-returns
+unfolding lineNumber
+returns c = rw (c .before .rank .ensures)
+
+pub line-number-spec : {M : Type 1} → statement M
+line-number-spec =
+    tie.close (tie.spec rank-requires cast-result mul-result add-result add-result-2 returns)
