@@ -10,16 +10,16 @@ use borrow.Author.Tests.{le-leb}
 use Rattle.ended.specs.declared.Ended.the-variants.{Said}
 use Rattle.meaning.proofs.Choices.{cond-true}
 use Rattle.replay_meaning.specs.Replay.{replayed}
-use Rattle.replay_meaning.specs.Stream.{Live, Fed, byteRead, fed, startLive, closed, within, quiet}
-use Rattle.replay_meaning.proofs.Prefixes.{closed-quiet}
+use Rattle.replay_meaning.specs.Stream.{Live, Fed, byteRead, fed, startLive, closed, within, handedOn}
+use Rattle.replay_meaning.proofs.Prefixes.{closed-handed-on}
 use Rattle.replay_meaning.proofs.Lines.{streamed}
 use Rattle.bench.specs.Whole.{enough, taken, wholeOf, wholeText}
 
 -- what was written up to here is no longer than what is written in the end
 said-short : (l : Live) (bs : List ℕ) → length (l .run .said) ≤ length (closed (fed l bs))
 said-short l bs =
-    let both : length (closed (fed l bs)) ≡ length (l .run .said) + length (closed (fed (quiet l) bs)) =
-    ap length (closed-quiet l bs) ∙ length-append (l .run .said) (closed (fed (quiet l) bs)) in
+    let both : length (closed (fed l bs)) ≡ length (l .run .said) + length (closed (fed (handedOn l) bs)) =
+    ap length (closed-handed-on l bs) ∙ length-append (l .run .said) (closed (fed (handedOn l) bs)) in
     omega (arith, both)
 
 said-closed : (l : Live) → length (l .run .said) ≤ length (closed l)

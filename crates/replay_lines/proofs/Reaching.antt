@@ -16,7 +16,7 @@ use Rattle.text.specs.Sheet.{Put}
 use Rattle.replay_keys.specs.Keys.{rank, fieldOf}
 use Rattle.replay_meaning.specs.declared.Progress.{Progress}
 use Rattle.replay_meaning.specs.Run.{Run, shapeOf, requestOf, badText, stopped, badLine, stepText, counted, answered, completed}
-use Rattle.replay_meaning.specs.Run.{keeping, kept, goodLine, judged, lineRead}
+use Rattle.replay_meaning.specs.Run.{keeping, kept, goodLine, lineJudged, lineRead}
 use Rattle.replay_meaning.proofs.Cases.{line-over, line-full, line-judged, good-last, good-more}
 use Rattle.replay_lines.specs.Reached.{runOf, Reached}
 
@@ -79,5 +79,5 @@ module _ (p : Progress) (s : Tables) (b : List ℕ) (e : ℕ) (l : List ℕ) (q 
   line-is-full h k r = rw (line-full (runOf p s b e) l h k) r
 
   pub line-is : (n : Number) → p .over ≡ false → p .steps < 1000000 → n ≡ fieldOf (p .key) l
-      → Reached (judged (runOf p s b e) n) q s′ b e b′ e′ → Reached (lineRead (runOf p s b e) l) q s′ b e b′ e′
+      → Reached (lineJudged (runOf p s b e) n) q s′ b e b′ e′ → Reached (lineRead (runOf p s b e) l) q s′ b e b′ e′
   line-is n h k f r = rw (line-judged (runOf p s b e) l h k, ← f) r

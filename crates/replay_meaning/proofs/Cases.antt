@@ -12,7 +12,7 @@ use Rattle.replay_keys.specs.Keys.{rank, fieldOf}
 use Rattle.meaning.proofs.Choices.{cond-true, cond-false}
 use Rattle.replay_meaning.specs.declared.Progress.{Progress}
 use Rattle.replay_meaning.specs.Replay.{isFirst, ending}
-use Rattle.replay_meaning.specs.Run.{Run, badText, badLine, completed, kept, goodLine, judged, lineRead}
+use Rattle.replay_meaning.specs.Run.{Run, badText, badLine, completed, kept, goodLine, lineJudged, lineRead}
 
 module _ (r : Run) (t : List ℕ) where
   pub line-over : r .at .over ≡ true → lineRead r t ≡ r
@@ -22,12 +22,12 @@ module _ (r : Run) (t : List ℕ) where
   pub line-full : r .at .over ≡ false → 1000000 ≤ r .at .steps → lineRead r t ≡ badLine r
   unfolding lineRead
   line-full h k =
-      cond-false (r .at .over) r _ h ∙ ap (judged r) (cond-true _ _ (fieldOf (r .at .key) t) (le-leb 1000000 (r .at .steps) k))
+      cond-false (r .at .over) r _ h ∙ ap (lineJudged r) (cond-true _ _ (fieldOf (r .at .key) t) (le-leb 1000000 (r .at .steps) k))
 
-  pub line-judged : r .at .over ≡ false → r .at .steps < 1000000 → lineRead r t ≡ judged r (fieldOf (r .at .key) t)
+  pub line-judged : r .at .over ≡ false → r .at .steps < 1000000 → lineRead r t ≡ lineJudged r (fieldOf (r .at .key) t)
   unfolding lineRead
   line-judged h k =
-      cond-false (r .at .over) r _ h ∙ ap (judged r) (cond-false _ _ (fieldOf (r .at .key) t) (lt-leb 1000000 (r .at .steps) k))
+      cond-false (r .at .over) r _ h ∙ ap (lineJudged r) (cond-false _ _ (fieldOf (r .at .key) t) (lt-leb 1000000 (r .at .steps) k))
 
 pub good-last : (r : Run) (v : ℕ) → rank (r .at .key) ≡ 9 → goodLine r v ≡ completed (kept r v)
 unfolding goodLine

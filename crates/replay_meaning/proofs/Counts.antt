@@ -15,7 +15,7 @@ use Rattle.replay_keys.specs.declared.Key.{Key}
 use Rattle.replay_keys.specs.declared.Key.the-variants.{Lines, Espi, Eppi, Mbis, Op, Frame, Sec, Width, Offset, Value}
 use Rattle.replay_keys.specs.Keys.{fieldOf}
 use Rattle.replay_meaning.specs.Run.{Run, lineNumber, stopped, badLine, counted, answered, completed, keeping, kept}
-use Rattle.replay_meaning.specs.Run.{goodLine, judged, lineRead}
+use Rattle.replay_meaning.specs.Run.{goodLine, lineJudged, lineRead}
 use Rattle.replay_meaning.specs.Replay.{start, startProgress, linesRead}
 
 abbrev run : Key → List ℕ → ℕ → Bool → Tables → List ℕ → Run
@@ -35,7 +35,7 @@ good-counts Width vs n o t s v = omega arith
 good-counts Offset vs n o t s v = omega arith
 good-counts Value vs n o t s v = omega arith
 
-judged-counts : (r : Run) (n : Number) → judged r n .at .over ≡ false → lineNumber (judged r n .at) ≡ suc (lineNumber (r .at))
+judged-counts : (r : Run) (n : Number) → lineJudged r n .at .over ≡ false → lineNumber (lineJudged r n .at) ≡ suc (lineNumber (r .at))
 unfolding badLine stopped
 judged-counts r (Is v) h = good-counts (r .at .key) (r .at .values) (r .at .steps) (r .at .over) (r .tables) (r .said) v
 judged-counts r Bad h = absurd (true≢false h)

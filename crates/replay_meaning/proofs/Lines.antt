@@ -2,7 +2,7 @@
 use mathlib.Core.Path.{_≡_, refl, sym, ap, _∙_}
 use mathlib.Core.Bool.{Bool, true, false, cond, _&&_}
 use mathlib.Core.List.{List, [], _∷_, _++_, append-assoc, append-nil}
-use Prim.Native.Nat.{ℕ, zero, suc, _+_, _≤_}
+use Prim.Native.Nat.{ℕ, zero, suc, _≤_}
 use native.Mathlib.Omega.{arith}
 use lib.Dec.{eqb, leb}
 use lib.ListN.{length, take, length-take, length-append}
@@ -16,12 +16,12 @@ use Rattle.replay_keys.specs.declared.Key.{Key}
 use Rattle.replay_keys.specs.Keys.{fieldOf}
 use Rattle.replay_keys.proofs.Fields.{long-field}
 use Rattle.replay_meaning.specs.declared.Progress.{Progress}
-use Rattle.replay_meaning.specs.Run.{Run, judged, lineRead, badText}
+use Rattle.replay_meaning.specs.Run.{Run, lineJudged, lineRead, badText}
 use Rattle.replay_meaning.specs.Replay.{Cut, longer, cut, start, linesRead, isFirst, ending, finished, replayed}
 use Rattle.replay_meaning.specs.Stream.{Live, pushed, byteRead, fed, startLive, closed, inPieces, joined}
 use Rattle.replay_meaning.proofs.Pieces.{pieces}
 
--- Enough bytes of a line are kept to judge it.
+-- Where at least 18 bytes of a line are kept, they are enough to judge it: a longer line is bad anyway.
 module _ (most : ℕ) (enough : 18 ≤ most) where
   field-short : (k : Key) (t : List ℕ) → fieldOf k (take most t) ≡ fieldOf k t
   field-short k t = by (leb (length t) most) refl
@@ -35,7 +35,7 @@ module _ (most : ℕ) (enough : 18 ≤ most) where
   line-short : (r : Run) (t : List ℕ) → lineRead r (take most t) ≡ lineRead r t
   unfolding lineRead
   line-short r t =
-      ap (λ (n : Number). cond (r .at .over) r (judged r (cond (leb 1000000 (r .at .steps)) Bad n))) (field-short (r .at .key) t)
+      ap (λ (n : Number). cond (r .at .over) r (lineJudged r (cond (leb 1000000 (r .at .steps)) Bad n))) (field-short (r .at .key) t)
 
   pushed-short : (t : List ℕ) (b : ℕ) → pushed most (take most t) b ≡ take most (t ++ (b ∷ []))
   unfolding pushed
@@ -61,7 +61,7 @@ module _ (most : ℕ) (enough : 18 ≤ most) where
       none (suc n) e =
           ne-eqb (length (take most t)) 0 (λ h. omega (arith, simp length-take at h)) ∙ sym (ne-eqb (length t) 0 (λ h. omega arith))
 
--- a text before the first line end of another
+-- a cut text, given by its lines and its rest, with t put before it: t goes to its first line, or to the rest where it has no line end
 abbrev leading : List ℕ → List (List ℕ) → List ℕ → Cut
 leading t [] rest = record { lines = []; rest = t ++ rest }
 leading t (l ∷ ls) rest = record { lines = (t ++ l) ∷ ls; rest = rest }
@@ -120,6 +120,6 @@ module _ (most : ℕ) (enough : 18 ≤ most) where
       ∙ ap (λ (t : List ℕ). linesRead start (cut input .lines) .said ++ t)
       (ending-short most enough (linesRead start (cut input .lines) .at) (cut input .rest)))
 
-  -- and so it is in pieces of any size
+  -- and the same holds where the input comes in pieces of any size
   pub in-pieces : (ps : List (List ℕ)) → inPieces (startLive most) ps ≡ replayed (joined ps)
   in-pieces ps = pieces (startLive most) ps ∙ streamed (joined ps)

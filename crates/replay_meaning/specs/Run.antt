@@ -100,11 +100,12 @@ isLast k = eqb (rank k) 9
 unfoldable pub goodLine : Run → ℕ → Run
 goodLine r v = cond (isLast (r .at .key)) (completed (kept r v)) (kept r v)
 
-abbrev pub judged : Run → Number → Run
-judged r (Is v) = goodLine r v
-judged r Bad = badLine r
+-- a line by what it says: a value is kept, and anything else is a bad line
+abbrev pub lineJudged : Run → Number → Run
+lineJudged r (Is v) = goodLine r v
+lineJudged r Bad = badLine r
 
 -- What one line does. Step 1,000,001 has no good line. After a bad line nothing is read.
 unfoldable pub lineRead : Run → List ℕ → Run
 lineRead r t =
-    cond (r .at .over) r (judged r (cond (leb 1000000 (r .at .steps)) Bad (fieldOf (r .at .key) t)))
+    cond (r .at .over) r (lineJudged r (cond (leb 1000000 (r .at .steps)) Bad (fieldOf (r .at .key) t)))

@@ -32,7 +32,7 @@ startLive most = record { run = start; line = []; most = most }
 unfoldable pub closed : Live → List ℕ
 closed l = finished (l .run) (l .line)
 
--- A piece taken while a buffer for the output has room: what is done, and what is left of the piece.
+-- A piece taken while a buffer for the output has room: what is done, and what remains of the piece.
 pub record Fed : Type 0 where
   pub live : Live
   pub left : List ℕ
@@ -45,14 +45,14 @@ unfoldable pub within : ℕ → Live → List ℕ → Fed
 within size l [] = record { live = l; left = [] }
 within size l (b ∷ bs) = cond (hasRoom size l) (within size (byteRead l b) bs) (record { live = l; left = b ∷ bs })
 
--- l with nothing written yet: what was written before has been handed on
-unfoldable pub quiet : Live → Live
-quiet l = record { run = record { at = l .run .at; tables = l .run .tables; said = [] }; line = l .line; most = l .most }
+-- l once its output so far has been handed on: nothing is written that is still to be handed on, and all else is unchanged
+unfoldable pub handedOn : Live → Live
+handedOn l = record { run = record { at = l .run .at; tables = l .run .tables; said = [] }; line = l .line; most = l .most }
 
 -- A replay whose input comes in pieces: what each piece adds to the output, and at the end what ends it.
 unfoldable pub inPieces : Live → List (List ℕ) → List ℕ
 inPieces l [] = closed l
-inPieces l (p ∷ ps) = fed l p .run .said ++ inPieces (quiet (fed l p)) ps
+inPieces l (p ∷ ps) = fed l p .run .said ++ inPieces (handedOn (fed l p)) ps
 
 -- the pieces put together
 unfoldable pub joined : List (List ℕ) → List ℕ

@@ -17,9 +17,11 @@ pub fn put_step(out: &mut [u8], end: usize, n: u32, a: Answer) -> usize
     requires { ⌜ end + 128 ≤ length (now out) ⌝ }
     ensures { λ r. ⌜ Put (now (out .entry)) end (stepText n a) (now (out .exit)) r ⌝ }
 {
-    let status = put_line(out, end, b"step=", n as u64);
-    let value = put_line(out, status, b"status=", status_of(a) as u64);
-    put_line(out, value, b"value=", value_of(a) as u64)
+    let status = status_of(a);
+    let value = value_of(a);
+    let second = put_line(out, end, b"step=", n as u64);
+    let third = put_line(out, second, b"status=", status as u64);
+    put_line(out, third, b"value=", value as u64)
 }
 
 // The number of the line whose turn it is.

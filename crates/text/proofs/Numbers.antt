@@ -1,4 +1,8 @@
--- Numbers in text, digit by digit; what is too large, or too long, is none.
+-- Laws of decimal numbers in text.
+--   digits-step, digits-end    reading a number goes on by one digit, and ends with the text
+--   digits-big, number-long    a text that writes more than 4294967295, or has more than ten bytes, writes no number
+--   digits-one, digits-more    writing a number: its one digit, or the digits before the last and then the last
+--   length-digits, length-numbered    a number has at most twenty digits, and so a line is at most 21 bytes longer than its key
 use mathlib.Core.Path.{_≡_, refl, sym}
 use mathlib.Core.Bool.{Bool, true, false, cond}
 use mathlib.Core.List.{List, [], _∷_, _++_}
@@ -23,11 +27,12 @@ pub digits-end : (n : ℕ) (t : List ℕ) (i : ℕ) → i ≡ length t → digit
 unfolding digitsAfter
 digits-end n t i h = rw (h, drop-length)
 
+-- a choice between two equal answers is the second of them, whichever is chosen
 chosen : (b : Bool) {x y : Number} → x ≡ y → cond b x y ≡ y
 chosen true h = h
 chosen false h = refl
 
--- past the limit no further digit leads back
+-- What the digits write so far is past the limit. A further digit makes it larger still, so the text writes no number.
 pub digits-big : (n : ℕ) (t : List ℕ) → 4294967295 < n → digitsAfter n t ≡ Bad
 unfolding digitsAfter limited
 digits-big n [] h = rw (lt-leb n 4294967295 h)
@@ -44,7 +49,7 @@ length-digits (suc k) n =
     let h = length-some (ltb n 10) (digitsOf k (n / 10)) k (length-digits k (n / 10)) in
     simp length-append (omega arith)
 
-pub length-decimal : (n : ℕ) → length (decimal n) ≤ 20
+length-decimal : (n : ℕ) → length (decimal n) ≤ 20
 unfolding decimal
 length-decimal n = length-digits 20 n
 
@@ -58,7 +63,7 @@ unfolding digitsOf
 digits-more zero n h l = absurd (h refl)
 digits-more (suc k) n h l = rw (le-ltb n 10 l, sub-one)
 
--- a number whose digits run on past the limit is none
+-- what is written so far, times ten for each byte to come, is past the limit: so the text writes no number
 digits-long : (n : ℕ) (t : List ℕ) → 4294967295 < n * 10 ^ length t → digitsAfter n t ≡ Bad
 unfolding digitsAfter limited
 digits-long n [] h = rw (lt-leb n 4294967295 (omega arith))
@@ -73,6 +78,7 @@ digits-long n (b ∷ t) h = chosen (isDigit b) (digits-long (n * 10 + (b - 48)) 
     longer : 4294967295 < (n * 10 + (b - 48)) * 10 ^ length t
     longer = omega (arith, h, shift, mul-le-mul-right (10 ^ length t) step)
 
+-- a text whose first byte is not the digit 0, with ten bytes or more after it, writes no number
 long-from : (b : ℕ) (t : List ℕ) → eqb b 48 ≡ false → 10 ≤ length t → digitsAfter 0 (b ∷ t) ≡ Bad
 unfolding digitsAfter
 long-from b t h l = by (leb 48 b) refl
@@ -87,7 +93,7 @@ long-from b t h l = by (leb 48 b) refl
         chosen (isDigit b) (digits-long (0 * 10 + (b - 48)) t (omega (arith, mul-le-mul first power)))
     by false e = rw e
 
--- no number has more than ten digits
+-- a text of more than ten bytes writes no number: its first digit is 0, which may not lead, or the number is past the limit
 pub number-long : (t : List ℕ) → 11 ≤ length t → numberIn t ≡ Bad
 unfolding numberIn leadingZero
 number-long [] h = absurd (not-suc-le-zero h)

@@ -1,7 +1,8 @@
--- Texts put one after the other are one text put.
+-- Laws of `Put`, the record of what writing a text into a lent buffer does: of no byte (put-none), of one byte (put-one), of a whole
+-- text copied (put-paste), and that two texts put one after the other are the joined text put (put-both).
 use mathlib.Core.Path.{_≡_, refl, sym, ap, _∙_}
 use mathlib.Core.List.{List, [], _∷_, _++_, append-assoc, append-nil}
-use Prim.Native.Nat.{ℕ, suc, _+_, _-_, _<_, _≤_}
+use Prim.Native.Nat.{ℕ, _+_, _<_, _≤_}
 use native.Mathlib.Nat.{add-zero}
 use native.Mathlib.Numerals.{add-one}
 use native.Mathlib.Omega.{arith}

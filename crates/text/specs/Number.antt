@@ -10,7 +10,7 @@ use Rattle.text.specs.declared.Number.the-variants.{Is, Bad}
 abbrev pub isDigit : ℕ → Bool
 isDigit b = leb 48 b && leb b 57
 
--- n, where it is at most the limit
+-- n where it is at most the limit, and no number otherwise
 unfoldable pub limited : ℕ → ℕ → Number
 limited most n = cond (leb n most) (Is n) Bad
 

@@ -35,7 +35,8 @@ fn wide(b: u8) -> u64
     b as u64
 }
 
-// Digits alone, and no more than a u32 holds: once past that, no further digit leads back.
+// The number that a text of digits writes. Bad where a byte is no digit, and where the digits read so far write more than 4294967295,
+// the largest u32: each further digit makes the number larger, so that the text is refused there and then.
 fn digits(text: &[u8]) -> Number
     ensures { λ r. ⌜ r ≡ digitsAfter 0 (now (text .entry)) ⌝ }
 {

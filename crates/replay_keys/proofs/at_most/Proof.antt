@@ -1,3 +1,4 @@
+-- `at_most` is `atMost`. Three ways out: a number up to the limit (returns), one above it (returns-2), and no number (returns-3).
 use borrow.Author.Tests.{le-leb, lt-leb}
 use Rattle.text.specs.Number.{limited}
 use borrow.Author.Needs.{needs}

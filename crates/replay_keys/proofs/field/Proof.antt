@@ -1,3 +1,5 @@
+-- `field` is `fieldOf`. Ten ways out, one for each key in the order of the lines: lines= (returns), espi= (returns-2), eppi= (returns-3),
+-- mbis= (returns-4), op= (returns-5), frame= (returns-6), sec= (returns-7), width= (returns-8), offset= (returns-9), value= (returns-10).
 use Rattle.replay_keys.specs.Keys.{fieldOf}
 use borrow.Author.Needs.{needs}
 use Rattle.replay_keys.proofs.field.Statement.{statement}

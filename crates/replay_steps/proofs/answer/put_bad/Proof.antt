@@ -1,3 +1,4 @@
+-- `put_bad` puts `badText`: bad= and the number of the line whose turn it is. One way out.
 use Rattle.replay_meaning.specs.Run.{badText}
 use borrow.Author.Needs.{needs}
 use Rattle.replay_steps.proofs.answer.put_bad.Statement.{statement}

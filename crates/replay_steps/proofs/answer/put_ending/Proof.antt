@@ -1,3 +1,5 @@
+-- `put_ending` puts `ending`. Four ways out: nothing once a bad line was read (returns), bad= after a line without its end (returns-2),
+-- bad= inside a step or the shape (returns-3), and end= between two steps (returns-4).
 use mathlib.Core.Path.{_∙_, sym}
 use denote.Ref.{now}
 use Rattle.text.proofs.Puts.{put-none}
@@ -6,8 +8,26 @@ use borrow.Author.Needs.{needs}
 use Rattle.replay_steps.proofs.answer.put_ending.Statement.{statement}
 use Rattle.replay_steps.proofs.answer.put_ending.Tie as tie
 
+-- the entry, from the first test
+abbrev entry : tie.After-shared-slice-known → tie.Start
+entry c = c .before .before
+
+-- the test that each of the three lines is put after, from where it is put
+abbrev unended : tie.After-put-bad → tie.Then2
+unended c = c .before .before
+
+abbrev inside : tie.After-put-bad2 → tie.Then3
+inside c = c .before .before
+
+abbrev between : tie.After-put-line → tie.Else3
+between c = c .before .before .before .before
+
+-- no bad line was read, once the key's rank is known
+abbrev going : tie.After-rank → tie.Else1
+going c = c .before .before
+
 returns : tie.Need-returns
-returns c = rw (ending-over (c .before .before .before .args .p) (now (c .before .before .before .args .rest)) (c .if1 .taken)) (put-none _ _)
+returns c = let a = entry (c .before) .args in rw (ending-over (a .p) (now (a .rest)) (c .if1 .taken)) (put-none _ _)
 
 put-bad-requires : tie.Need-put-bad-requires
 put-bad-requires c κs = search needs
@@ -17,8 +37,10 @@ same-length c = search needs
 
 returns-2 : tie.Need-returns-2
 returns-2 c =
-    let a = c .before .before .before .before .before .before .before .before .args in
-    rw (ending-rest (a .p) (now (a .rest)) (c .before .before .before .before .before .if1 .left) (c .before .before .before .before .if2 .taken)) (c .before .before .put-bad .ensures)
+    let b = c .before .before in
+    let u = unended b in
+    let a = entry (u .before .before) .args in
+    rw (ending-rest (a .p) (now (a .rest)) (u .before .if1 .left) (u .if2 .taken)) (b .put-bad .ensures)
 
 rank-requires : tie.Need-rank-requires
 rank-requires c κs = search needs
@@ -31,8 +53,12 @@ same-length-2 c = search needs
 
 returns-3 : tie.Need-returns-3
 returns-3 c =
-    let a = c .before .before .before .before .before .before .before .before .before .before .args in
-    rw (ending-inside (a .p) (now (a .rest)) (c .before .before .before .before .before .before .before .if1 .left) (λ e. c .before .before .before .before .if3 .taken (c .before .before .before .before .before .rank .ensures ∙ e))) (c .before .before .put-bad2 .ensures)
+    let b = c .before .before in
+    let i = inside b in
+    let g = going (i .before) in
+    let a = entry (g .before) .args in
+    rw (ending-inside (a .p) (now (a .rest)) (g .if1 .left) (λ e. i .if3 .taken (i .before .rank .ensures ∙ e)))
+    (b .put-bad2 .ensures)
 
 slice-aggregate-put-line : tie.Need-slice-aggregate-put-line
 slice-aggregate-put-line c = search needs
@@ -48,8 +74,12 @@ same-length-3 c = search needs
 
 returns-4 : tie.Need-returns-4
 returns-4 c =
-    let a = c .before .before .before .before .before .before .before .before .before .before .before .before .args in
-    rw (ending-end (a .p) (now (a .rest)) (c .before .before .before .before .before .before .before .before .before .if1 .left) (c .before .before .before .before .before .before .before .before .if2 .left) (sym (c .before .before .before .before .before .before .before .rank .ensures) ∙ c .before .before .before .before .before .before .if3 .left)) (c .before .before .put-line .ensures)
+    let l = c .before .before in
+    let b = between l in
+    let g = going (b .before) in
+    let a = entry (g .before) .args in
+    rw (ending-end (a .p) (now (a .rest)) (g .if1 .left) (b .before .before .if2 .left) (sym (b .before .rank .ensures) ∙ b .if3 .left))
+    (l .put-line .ensures)
 
 pub put-ending-spec : {M : Type 1} → statement M
 put-ending-spec =

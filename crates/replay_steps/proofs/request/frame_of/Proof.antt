@@ -1,3 +1,4 @@
+-- `frame_of` is `frameOf`. Two ways out: 0, the Distributor (returns), and any other number, the Redistributor (returns-2).
 use borrow.Author.Tests.{eq-eqb, ne-eqb}
 use Rattle.replay_steps.proofs.request.frame_of.Statement.{statement}
 use Rattle.replay_steps.proofs.request.frame_of.Tie as tie

@@ -1,4 +1,4 @@
--- `request_of` is `requestOf`.
+-- `request_of` is `requestOf`. One way out.
 use Rattle.replay_meaning.specs.Run.{requestOf}
 use borrow.Author.Needs.{needs}
 use Rattle.replay_steps.proofs.request.request_of.Statement.{statement}

@@ -1,4 +1,4 @@
--- `shape_of` is `shapeOf`.
+-- `shape_of` is `shapeOf`. One way out.
 use Rattle.replay_meaning.specs.Run.{shapeOf}
 use borrow.Author.Needs.{needs}
 use Rattle.replay_steps.proofs.request.shape_of.Statement.{statement}

@@ -1,3 +1,4 @@
+-- `side_of` is `sideOf`. Two ways out: 0, Secure (returns), and any other number, Non-secure (returns-2).
 use borrow.Author.Tests.{eq-eqb, ne-eqb}
 use Rattle.replay_steps.proofs.request.side_of.Statement.{statement}
 use Rattle.replay_steps.proofs.request.side_of.Tie as tie

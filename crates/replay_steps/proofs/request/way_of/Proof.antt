@@ -1,3 +1,4 @@
+-- `way_of` is `wayOf`. Two ways out: 0, a read (returns), and any other number, a write (returns-2).
 use borrow.Author.Tests.{eq-eqb, ne-eqb}
 use Rattle.replay_steps.proofs.request.way_of.Statement.{statement}
 use Rattle.replay_steps.proofs.request.way_of.Tie as tie

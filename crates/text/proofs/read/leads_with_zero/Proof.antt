@@ -1,3 +1,4 @@
+-- `read::leads_with_zero` is `leadingZero`. Two ways out: a text of one byte or none (returns), and a longer one (returns-2).
 use borrow.Author.Tests.{le-ltb, lt-ltb}
 use Rattle.text.specs.Number.{leadingZero}
 use borrow.Author.Needs.{needs}

@@ -1,3 +1,5 @@
+-- `read::number` is `numberIn`. Three ways out: an empty text (returns), one with a leading zero (returns-2), and any other, whose digits
+-- are read (returns-3).
 use borrow.Author.Needs.{needs}
 use borrow.Author.Tests.{eq-eqb, ne-eqb}
 use Rattle.text.specs.Number.{numberIn}
@@ -13,14 +15,18 @@ leads-with-zero-requires c κs = search needs
 
 returns-2 : tie.Need-returns-2
 unfolding numberIn
-returns-2 c = rw (ne-eqb _ _ (c .before .before .if1 .left), ← (c .before .leads-with-zero .ensures), c .if2 .taken)
+returns-2 c =
+    let z = c .before in
+    rw (ne-eqb _ _ (z .before .if1 .left), ← (z .leads-with-zero .ensures), c .if2 .taken)
 
 digits-requires : tie.Need-digits-requires
 digits-requires c κs = search needs
 
 returns-3 : tie.Need-returns-3
 unfolding numberIn
-returns-3 c = rw (ne-eqb _ _ (c .before .before .before .if1 .left), ← (c .before .before .leads-with-zero .ensures), c .before .if2 .left) (c .digits .ensures)
+returns-3 c =
+    let z = c .before .before in
+    rw (ne-eqb _ _ (z .before .if1 .left), ← (z .leads-with-zero .ensures), c .before .if2 .left) (c .digits .ensures)
 
 pub number-spec : {M : Type 1} → statement M
 number-spec =

@@ -1,3 +1,4 @@
+-- `read::same` is `sameText`. Two ways out: texts of different lengths (returns), and texts of one length, compared (returns-2).
 use borrow.Author.Needs.{needs}
 use borrow.Author.Tests.{eq-eqb, ne-eqb}
 use Rattle.text.specs.Text.{sameText}

@@ -1,3 +1,4 @@
+-- `write::put_byte` puts one byte. One way out.
 use Rattle.text.proofs.Puts.{put-one}
 use borrow.Author.Needs.{needs}
 use Rattle.text.proofs.write.put_byte.Statement.{statement}
