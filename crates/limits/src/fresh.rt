@@ -1,56 +1,56 @@
 // Single requests, each on tables of its own: records 0, and every interrupt present but where a word of presence says otherwise.
-use crate::print::answer;
+use crate::asked::ALL;
+use crate::asked::FEWER;
+use crate::asked::access;
+use crate::asked::bench;
+use crate::asked::event;
 use crate::print::number;
+use crate::print::words;
 use types::Access;
-use types::Answer;
 use types::Event;
 use types::Frame;
 use types::Shape;
 use types::Side;
 
-// Words of presence: every interrupt, and every one but the first.
-pub const ALL: u32 = 4294967295;
-
-const FEWER: u32 = 4294967294;
-
-// The bench shape.
-pub fn bench() -> Shape {
-    Shape::new(9, 4, 1, true)
+// The wire goes low, on tables of its own.
+fn low(present: u32, shape: Shape, intid: u32) {
+    let mut dist = [0u8; 2012];
+    let mut redist = [0u8; 96];
+    event(
+        &mut dist,
+        &mut redist,
+        present,
+        shape,
+        intid,
+        Event::Wire(false),
+    );
 }
 
-fn wired(present: u32, shape: Shape, m: u32) -> Answer {
-    let mut d = [0u8; 2012];
-    let mut r = [0u8; 96];
-    let dp = [present; 63];
-    let rp = [present; 3];
-    controller::event(&mut d, &mut r, &dp, &rp, shape, m, Event::Wire(false))
+// A read with the bench shape, on tables of its own.
+fn read(present: u32, frame: Frame, side: Side, width: u32, offset: u32) {
+    let mut dist = [0u8; 2012];
+    let mut redist = [0u8; 96];
+    let request = Access::read(frame, side, width, offset);
+    access(&mut dist, &mut redist, present, bench(), request);
 }
 
-fn accessed(present: u32, request: Access) -> Answer {
-    let mut d = [0u8; 2012];
-    let mut r = [0u8; 96];
-    let dp = [present; 63];
-    let rp = [present; 3];
-    controller::access(&mut d, &mut r, &dp, &rp, bench(), request)
-}
-
-pub fn say_wire(lines: u32, espi: u32, eppi: u32, m: u32) {
+pub fn say_wire(lines: u32, espi: u32, eppi: u32, intid: u32) {
     number(b"wire lines=", lines);
     number(b" espi=", espi);
     number(b" eppi=", eppi);
-    number(b" intid=", m);
+    number(b" intid=", intid);
 }
 
-// A wire that goes low.
-pub fn wire(lines: u32, espi: u32, eppi: u32, m: u32) {
-    say_wire(lines, espi, eppi, m);
-    answer(wired(ALL, Shape::new(lines, espi, eppi, true), m));
+// A wire that goes low, with all interrupts present.
+pub fn wire(lines: u32, espi: u32, eppi: u32, intid: u32) {
+    say_wire(lines, espi, eppi, intid);
+    low(ALL, Shape::new(lines, espi, eppi, true), intid);
 }
 
 // The same with the bench shape, the first interrupt of each word missing.
-pub fn fewer_wire(m: u32) {
-    say_wire(9, 4, 1, m);
-    answer(wired(FEWER, bench(), m));
+pub fn fewer_wire(intid: u32) {
+    say_wire(9, 4, 1, intid);
+    low(FEWER, bench(), intid);
 }
 
 fn say_read(frame: u32, width: u32, offset: u32) {
@@ -60,24 +60,18 @@ fn say_read(frame: u32, width: u32, offset: u32) {
 }
 
 // Reads of the Non-secure side.
-pub fn dist(width: u32, offset: u32) {
+pub fn read_dist(width: u32, offset: u32) {
     say_read(0, width, offset);
-    answer(accessed(
-        ALL,
-        Access::read(Frame::Dist, Side::NonSecure, width, offset),
-    ));
+    read(ALL, Frame::Dist, Side::NonSecure, width, offset);
 }
 
-pub fn redist(width: u32, offset: u32) {
+pub fn read_redist(width: u32, offset: u32) {
     say_read(1, width, offset);
-    answer(accessed(
-        ALL,
-        Access::read(Frame::Redist, Side::NonSecure, width, offset),
-    ));
+    read(ALL, Frame::Redist, Side::NonSecure, width, offset);
 }
 
 // ICFGR0, the first interrupt of each word missing.
 pub fn fewer_edges(label: &[u8], side: Side) {
-    io::write_all(1, label);
-    answer(accessed(FEWER, Access::read(Frame::Redist, side, 4, 0xC00)));
+    words(label);
+    read(FEWER, Frame::Redist, side, 4, 0xC00);
 }

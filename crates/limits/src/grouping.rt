@@ -1,9 +1,11 @@
 // Document 02, CR 2: an interrupt is Non-secure exactly when group is 1, whatever the modifier. Each case is a record of SPI 300, which
 // is slot 268 and bit 12 of word 9, and what is asked then; all other records are 0. 192 is both bits, 64 group and 128 modifier alone.
-use crate::fresh::ALL;
-use crate::fresh::bench;
-use crate::print::answer;
+use crate::asked::ALL;
+use crate::asked::access;
+use crate::asked::bench;
+use crate::asked::event;
 use crate::print::number;
+use crate::print::words;
 use types::Access;
 use types::Event;
 use types::Frame;
@@ -25,58 +27,53 @@ fn read(side: Side, at: u32) -> Access {
 
 fn say(record: u8, label: &[u8]) {
     number(b"record=", record as u32);
-    io::write_all(1, label);
+    words(label);
 }
 
 // What a side reads.
 fn shown(record: u8, label: &[u8], side: Side, at: u32) {
-    let mut d = [0u8; 2012];
-    let mut r = [0u8; 96];
-    let dp = [ALL; 63];
-    let rp = [ALL; 3];
-    d[268] = record;
+    let mut dist = [0u8; 2012];
+    let mut redist = [0u8; 96];
+    dist[268] = record;
     say(record, label);
-    let request = read(side, at);
-    answer(controller::access(&mut d, &mut r, &dp, &rp, bench(), request));
+    access(&mut dist, &mut redist, ALL, bench(), read(side, at));
+}
+
+// What the Non-secure side then reads.
+fn then(dist: &mut [u8], redist: &mut [u8], name: &[u8], at: u32) {
+    words(b"then Non-secure reads ");
+    words(name);
+    access(dist, redist, ALL, bench(), read(Side::NonSecure, at));
 }
 
 // A write, and what the Non-secure side then reads.
 fn written(record: u8, label: &[u8], request: Access, name: &[u8], at: u32) {
-    let mut d = [0u8; 2012];
-    let mut r = [0u8; 96];
-    let dp = [ALL; 63];
-    let rp = [ALL; 3];
-    d[268] = record;
+    let mut dist = [0u8; 2012];
+    let mut redist = [0u8; 96];
+    dist[268] = record;
     say(record, label);
-    answer(controller::access(&mut d, &mut r, &dp, &rp, bench(), request));
-    io::write_all(1, b"then Non-secure reads ");
-    io::write_all(1, name);
-    let then = read(Side::NonSecure, at);
-    answer(controller::access(&mut d, &mut r, &dp, &rp, bench(), then));
+    access(&mut dist, &mut redist, ALL, bench(), request);
+    then(&mut dist, &mut redist, name, at);
 }
 
 // The Non-secure side activates or deactivates 300, and what it then reads.
-fn happened(record: u8, label: &[u8], event: Event) {
-    let mut d = [0u8; 2012];
-    let mut r = [0u8; 96];
-    let dp = [ALL; 63];
-    let rp = [ALL; 3];
-    d[268] = record;
+fn happened(record: u8, label: &[u8], what: Event) {
+    let mut dist = [0u8; 2012];
+    let mut redist = [0u8; 96];
+    dist[268] = record;
     say(record, label);
-    answer(controller::event(&mut d, &mut r, &dp, &rp, bench(), 300, event));
-    io::write_all(1, b"then Non-secure reads ISACTIVER9");
-    let then = read(Side::NonSecure, ISACTIVER9);
-    answer(controller::access(&mut d, &mut r, &dp, &rp, bench(), then));
+    event(&mut dist, &mut redist, ALL, bench(), 300, what);
+    then(&mut dist, &mut redist, b"ISACTIVER9", ISACTIVER9);
 }
 
 fn activated(record: u8) {
-    let event = Event::Activate(Side::NonSecure);
-    happened(record, b" Non-secure activates 300", event);
+    let what = Event::Activate(Side::NonSecure);
+    happened(record, b" Non-secure activates 300", what);
 }
 
 fn deactivated(record: u8) {
-    let event = Event::Deactivate(Side::NonSecure);
-    happened(record, b" Non-secure deactivates 300", event);
+    let what = Event::Deactivate(Side::NonSecure);
+    happened(record, b" Non-secure deactivates 300", what);
 }
 
 // The stored bits read back to the Secure side, and to no other.

@@ -2,6 +2,7 @@
 // the request and its answer. The expected output (stdout) is written from the two documents and not from this program.
 use types::Side;
 
+mod asked;
 mod fresh;
 mod grouping;
 mod lent;
@@ -51,35 +52,35 @@ fn off() {
 
 // Non-secure reads of the Distributor frame: width, offset.
 fn dist() {
-    fresh::dist(2, 0x40);
-    fresh::dist(2, 0x42);
-    fresh::dist(2, 0x224);
-    fresh::dist(1, 0x40);
-    fresh::dist(1, 0x224);
-    fresh::dist(4, 0x226);
-    fresh::dist(4, 0x10000);
-    fresh::dist(4, 0x0000);
-    fresh::dist(4, 0xFFFC);
+    fresh::read_dist(2, 0x40);
+    fresh::read_dist(2, 0x42);
+    fresh::read_dist(2, 0x224);
+    fresh::read_dist(1, 0x40);
+    fresh::read_dist(1, 0x224);
+    fresh::read_dist(4, 0x226);
+    fresh::read_dist(4, 0x10000);
+    fresh::read_dist(4, 0x0000);
+    fresh::read_dist(4, 0xFFFC);
 }
 
 fn dist_more() {
-    fresh::dist(4, 0x10001);
-    fresh::dist(3, 0x10001);
-    fresh::dist(2, 0x41);
-    fresh::dist(2, 0x44);
-    fresh::dist(2, 0x004);
-    fresh::dist(4, 0x004);
-    fresh::dist(4294967295, 0);
-    fresh::dist(4, 4294967292);
+    fresh::read_dist(4, 0x10001);
+    fresh::read_dist(3, 0x10001);
+    fresh::read_dist(2, 0x41);
+    fresh::read_dist(2, 0x44);
+    fresh::read_dist(2, 0x004);
+    fresh::read_dist(4, 0x004);
+    fresh::read_dist(4294967295, 0);
+    fresh::read_dist(4, 4294967292);
 }
 
 // Non-secure reads of the Redistributor frame: width, offset.
 fn redist() {
-    fresh::redist(2, 0x40);
-    fresh::redist(2, 0x80);
-    fresh::redist(4, 0x08C);
-    fresh::redist(4, 0xC14);
-    fresh::redist(4, 0xC18);
+    fresh::read_redist(2, 0x40);
+    fresh::read_redist(2, 0x80);
+    fresh::read_redist(4, 0x08C);
+    fresh::read_redist(4, 0xC14);
+    fresh::read_redist(4, 0xC18);
 }
 
 // An SGI and an SPI whose presence bits are 0 are missing. The Secure side reads the other SGIs as edge.

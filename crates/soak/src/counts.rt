@@ -3,7 +3,7 @@
 use crate::print::field;
 use crate::print::line_end;
 use answers::status_of;
-use draws::Request;
+use soak_steps::draws::Request;
 use std::num::wrapping_add_u64;
 use types::Answer;
 

@@ -1,9 +1,9 @@
-// The four lent tables: filled for a start, and digested. Each has one element more than it lends, for
-// the steps that are lent one too many; it is digested too.
+// The four lent tables: filled for a start, and digested. Each has one element more than it lends, for the steps that are lent one too
+// many; it is digested too.
 ghost use Prim.Native.Nat.{_+_, _<_, _≤_};
 ghost use lib.ListN.{length};
-use dice::random::next;
-use dice::random::word;
+use soak_steps::random::next;
+use soak_steps::random::word;
 
 // A record byte: mode 0 is 0, mode 1 is any that is Non-secure, else any.
 fn record(mode: u32, x: u64) -> u8 {
@@ -64,10 +64,11 @@ fn four(b: &[u8], i: usize) -> u64
     wide(b[i]) | (wide(b[i + 1]) << 8) | (wide(b[i + 2]) << 16) | (wide(b[i + 3]) << 24)
 }
 
-// How many bytes are mixed at once: eight, and one by one what is left over.
+// How many bytes are mixed at once: eight, and the last ones, fewer than eight, one by one.
 fn stride(left: usize) -> usize
     requires { ⌜ 0 < left ⌝ }
-    ensures { λ r. ⌜ (0 < r) × (r ≤ left) ⌝ }
+    ensures { λ r. ⌜ 0 < r ⌝ }
+    ensures { λ r. ⌜ r ≤ left ⌝ }
 {
     if left < 8 { 1 } else { 8 }
 }
@@ -103,11 +104,8 @@ fn mix_presence(from: u64, b: &[u32]) -> u64 {
     x
 }
 
-// The digest of the record bytes, and after it that of all four tables.
-pub fn records_digest(d: &[u8; 2013], r: &[u8; 97]) -> u64 {
-    mix_records(mix_records(1, d), r)
-}
-
-pub fn presence_digest(records: u64, dp: &[u32; 64], rp: &[u32; 4]) -> u64 {
-    mix_presence(mix_presence(records, dp), rp)
+// The digest of all four tables.
+pub fn digest(dist: &[u8], redist: &[u8], dist_presence: &[u32], redist_presence: &[u32]) -> u64 {
+    let records = mix_records(mix_records(1, dist), redist);
+    mix_presence(mix_presence(records, dist_presence), redist_presence)
 }

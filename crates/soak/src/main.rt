@@ -1,25 +1,26 @@
 // Long random runs of the compiled controller: the same steps as the second model's soak takes, and digests of all that comes of
 // them (docs/SOAK.md). Five numbers come on standard input, with anything between them that is no digit: the first table, how many
 // tables, steps a table, after every how many steps the tables are digested, and whether (1) each step is shown.
-use asked::ask;
 use counts::count;
 use counts::print_counts;
-use dice::table::begun;
-use draws::drawn;
-use draws::four_of;
-use draws::off_of;
+use lent::digest;
 use lent::fill_presence;
 use lent::fill_records;
-use lent::presence_digest;
-use lent::records_digest;
 use plan::Plan;
 use plan::due;
 use print::field;
+use run::Run;
 use run::answered;
 use run::digested;
 use run::print_run;
 use show::show;
 use show::show_digest;
+use soak_steps::asked::ask;
+use soak_steps::draws::drawn;
+use soak_steps::draws::four_of;
+use soak_steps::draws::off_of;
+use soak_steps::table::Table;
+use soak_steps::table::begun;
 use std::num::wrapping_add_u64;
 use types::Shape;
 
@@ -37,36 +38,90 @@ fn print_shape(shape: Shape) {
     field(b" mbis=", if shape.mbis { 1 } else { 0 });
 }
 
-// A table: made and filled, its steps drawn, taken and counted, digested where that is due, and what they came to printed. The stream
-// goes on from one filling to the next, and from the last to the steps.
-fn one_table(counts: &mut [u64], plan: Plan, number: u64) {
-    let t = begun(number);
-    let mut d = [0u8; 2013];
-    let mut r = [0u8; 97];
-    let mut dp = [0u32; 64];
-    let mut rp = [0u32; 4];
-    let a = fill_records(&mut d, t.records, t.x);
-    let b = fill_records(&mut r, t.records, a);
-    let c = fill_presence(&mut dp, t.presence, b);
-    let e = fill_presence(&mut rp, t.presence, c);
-    let before = records_digest(&d, &r);
-    let mut run = run::begun(e, presence_digest(before, &dp, &rp));
+// One step of a table's run: drawn, taken and counted, digested where that is due, and shown where that is asked for.
+fn step(
+    counts: &mut [u64],
+    dist: &mut [u8],
+    redist: &mut [u8],
+    dist_presence: &[u32],
+    redist_presence: &[u32],
+    plan: Plan,
+    t: Table,
+    before: Run,
+) -> Run {
+    let n = four_of(before.x);
+    let q = drawn(t, n);
+    let off = off_of(n);
+    let answer = ask(
+        dist,
+        redist,
+        dist_presence,
+        redist_presence,
+        t.shape,
+        off,
+        q,
+    );
+    count(counts, q, answer);
+    let mut run = answered(before, n.e, answer);
+    show(plan.show, run.number, q, off, answer);
+    if due(plan, run.number) {
+        run = digested(run, digest(dist, redist, dist_presence, redist_presence));
+    }
+    show_digest(plan.show, run.last);
+    run
+}
+
+// The steps of a filled table, and what they came to.
+fn steps(
+    counts: &mut [u64],
+    dist: &mut [u8],
+    redist: &mut [u8],
+    dist_presence: &[u32],
+    redist_presence: &[u32],
+    plan: Plan,
+    t: Table,
+    x: u64,
+) -> Run {
+    let mut run = run::begun(x, digest(dist, redist, dist_presence, redist_presence));
     let mut left = plan.steps;
     while left > 0 {
-        let n = four_of(run.x);
-        let q = drawn(t, n);
-        let off = off_of(n);
-        let answer = ask(&mut d, &mut r, &dp, &rp, t.shape, off, q);
-        count(counts, q, answer);
-        run = answered(run, n.e, answer);
-        show(plan.show, run.number, q, off, answer);
-        if due(plan, run.number) {
-            let after = records_digest(&d, &r);
-            run = digested(run, presence_digest(after, &dp, &rp));
-        }
-        show_digest(plan.show, run.last);
+        run = step(
+            counts,
+            dist,
+            redist,
+            dist_presence,
+            redist_presence,
+            plan,
+            t,
+            run,
+        );
         left -= 1;
     }
+    run
+}
+
+// A table: made and filled, its steps taken, and what they came to printed. The stream goes on from one filling to the next, and from
+// the last to the steps.
+fn one_table(counts: &mut [u64], plan: Plan, number: u64) {
+    let t = begun(number);
+    let mut dist = [0u8; 2013];
+    let mut redist = [0u8; 97];
+    let mut dist_presence = [0u32; 64];
+    let mut redist_presence = [0u32; 4];
+    let a = fill_records(&mut dist, t.records, t.x);
+    let b = fill_records(&mut redist, t.records, a);
+    let c = fill_presence(&mut dist_presence, t.presence, b);
+    let x = fill_presence(&mut redist_presence, t.presence, c);
+    let run = steps(
+        counts,
+        &mut dist,
+        &mut redist,
+        &dist_presence,
+        &redist_presence,
+        plan,
+        t,
+        x,
+    );
     field(b"table=", number);
     print_shape(t.shape);
     print_run(run);

@@ -5,7 +5,7 @@ pub struct Plan {
     pub first: u64,
     pub tables: u64,
     pub steps: u64,
-    pub every: u64,
+    every: u64,
     pub show: bool,
 }
 

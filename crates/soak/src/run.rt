@@ -4,7 +4,7 @@ use crate::print::hex;
 use crate::print::line_end;
 use answers::status_of;
 use answers::value_of;
-use dice::random::next;
+use soak_steps::random::next;
 use std::num::wrapping_add_u64;
 use types::Answer;
 
@@ -13,11 +13,11 @@ use types::Answer;
 pub struct Run {
     pub x: u64,
     pub number: u64,
-    pub done: u64,
-    pub refused: u64,
-    pub changed: u64,
-    pub answers: u64,
-    pub tables: u64,
+    done: u64,
+    refused: u64,
+    changed: u64,
+    answers: u64,
+    tables: u64,
     pub last: u64,
 }
 

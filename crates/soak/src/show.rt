@@ -5,7 +5,7 @@ use crate::print::line_end;
 use crate::print::spaced;
 use answers::status_of;
 use answers::value_of;
-use draws::Request;
+use soak_steps::draws::Request;
 use types::Answer;
 
 fn request(q: Request) {

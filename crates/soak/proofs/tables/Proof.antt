@@ -1,4 +1,4 @@
--- `tables` ends: what is left falls to 0. The counts keep their length.
+-- `tables` ends: the number of tables still to run falls to 0. The counts keep their length. One way out (returns): no table remains.
 use mathlib.Core.Path.{_≡_}
 use lib.ListN.{length}
 use borrow.Author.Needs.{needs}

@@ -1,4 +1,4 @@
--- `print_classes` ends: the class rises to 37.
+-- `print_classes` ends: the class rises to 37. One way out (returns): all 37 are printed.
 use Prim.Native.Nat.{_≤_, _-_}
 use borrow.Author.Needs.{needs}
 use Rattle.soak.proofs.counts.print_classes.Statement.{statement}

@@ -1,4 +1,4 @@
--- `print_statuses` ends: the status rises to 10.
+-- `print_statuses` ends: the status rises to 10. One way out (returns): all ten are printed.
 use Prim.Native.Nat.{_≤_, _-_}
 use borrow.Author.Needs.{needs}
 use Rattle.soak.proofs.counts.print_statuses.Statement.{statement}

@@ -1,20 +1,32 @@
--- `fill_presence` writes inside the table and ends: its length stays, and the place rises to it.
-use mathlib.Core.Path.{_≡_}
-use Prim.Native.Nat.{_≤_, _-_}
+-- `fill_presence` writes inside the table and ends: the table keeps its length, and the place rises to it (`Filling`). One way out
+-- (returns): the whole table is filled.
+use Prim.Native.Nat.{_-_}
 use lib.ListN.{length}
+use native.Mathlib.Omega.{arith}
 use borrow.Author.Needs.{needs}
+use Rattle.soak.proofs.Filling.{Filling, filling-none, filling-more}
 use Rattle.soak.proofs.lent.fill_presence.Statement.{statement}
 use Rattle.soak.proofs.lent.fill_presence.Tie as tie
 
 abbrev Inv-loop : tie.InvT-loop
-Inv-loop b₀ mode from x₀ i₀ b x i = (length b ≡ length b₀) × (i ≤ length b₀)
+Inv-loop b₀ mode from x₀ i₀ b x i = Filling b₀ b i
 
 abbrev μ-loop : tie.MeasureT-loop
 μ-loop b₀ mode from x₀ i₀ b x i = length b₀ - i
+
+-- from a turn's end to the loop's head
+abbrev head : tie.After-presence Inv-loop μ-loop → tie.At-loop Inv-loop μ-loop
+head c = c .before .before .before
+
+loop-holds : tie.Need-loop-holds Inv-loop μ-loop
+loop-holds c = filling-none _
+
+loop-again : tie.Need-loop-again Inv-loop μ-loop
+loop-again c = let f = head c .loop .inv in filling-more _ _ _ _ f (let s = f .same in omega arith)
 
 pub fill-presence-spec : {M : Type 1} → statement M
 fill-presence-spec =
     tie.close
     (tie.spec Inv-loop μ-loop
-    (λ c. search needs) (λ c κs. search needs) (λ c κs. search needs) (λ c. search needs) (λ c. search needs)
-    (λ c. search needs) (λ c. search needs) (λ c. search needs) (λ c. search needs) (λ c. search needs))
+    loop-holds (λ c κs. search needs) (λ c κs. search needs) (λ c. search needs) (λ c. search needs) (λ c. search needs) (λ c. search needs)
+    loop-again (λ c. search needs) (λ c. search needs))

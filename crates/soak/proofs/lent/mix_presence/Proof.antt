@@ -1,4 +1,4 @@
--- `mix_presence` reads inside the table and ends: the place rises to its length.
+-- `mix_presence` reads inside the table and ends: the place rises to its length. One way out (returns): the whole table is mixed.
 use Prim.Native.Nat.{_≤_, _-_}
 use lib.ListN.{length}
 use borrow.Author.Needs.{needs}

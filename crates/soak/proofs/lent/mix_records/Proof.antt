@@ -1,4 +1,5 @@
--- `mix_records` reads inside the table and ends: a stride is at least 1 and at most what is left.
+-- `mix_records` reads inside the table and ends: a stride is at least 1 and at most what remains. One way out (returns): the whole
+-- table is mixed.
 use Prim.Native.Nat.{_≤_, _-_}
 use lib.ListN.{length}
 use borrow.Author.Needs.{needs}

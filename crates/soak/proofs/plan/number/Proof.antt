@@ -1,4 +1,4 @@
--- `number` reads inside the text and ends: the place rises to its length.
+-- `number` reads inside the text and ends: the place rises to its length. One way out (returns): the whole text is read.
 use Prim.Native.Nat.{_≤_, _-_}
 use lib.ListN.{length}
 use borrow.Author.Needs.{needs}

@@ -1,36 +1,42 @@
 // What a step of a long random run asks for (docs/SOAK.md). Each step takes four numbers of the stream, whatever it is.
-use dice::random::next;
-use dice::random::pick;
-use dice::random::word;
-use dice::table::Table;
-use dice::table::home_of;
-use dice::table::intid_of;
-use edges::any_offset;
-use edges::any_width;
-use edges::edge;
-use edges::near;
-use edges::offset_of;
+use crate::edges::any_offset;
+use crate::edges::any_width;
+use crate::edges::edge;
+use crate::edges::near;
+use crate::edges::offset_of;
+use crate::random::next;
+use crate::random::pick;
+use crate::random::word;
+use crate::table::Table;
+use crate::table::home_of;
+use crate::table::intid_of;
 use types::Shape;
 
-// A step. `class` says what it is, and it is counted by it: 0 to 26 the families by column, 27 TYPER, 28 to 31 the message
-// registers, 32 anywhere, 33 wire, 34 activate, 35 deactivate, 36 reset. Side 1 is Non-secure, way 1 a write or a wire that goes
-// high, frame 1 the Redistributor. What a step does not name is 0.
+// One step. A field that its kind of step does not use is 0.
 pub struct Request {
+    // The kind of step, by which the steps are counted. 0 to 26: a word of a family, 9 · column + family (column 0 the Distributor's
+    // words, 1 its extended ones, 2 the Redistributor's). 27: TYPER. 28 to 31: one of the four message registers. 32: any width at any
+    // offset. 33: a wire. 34: an activation. 35: a deactivation. 36: a reset.
     pub class: u32,
+    // 0 Secure, 1 Non-secure.
     pub side: u32,
+    // Of an access: 0 read, 1 write. Of a wire: 0 goes low, 1 goes high.
     pub way: u32,
+    // 0 Distributor, 1 Redistributor.
     pub frame: u32,
     pub width: u32,
     pub offset: u32,
+    // The value to write. It is drawn for reads as well, and then only shown.
     pub value: u32,
     pub intid: u32,
 }
 
 // The four numbers of a step.
 pub struct Numbers {
-    pub a: u64,
-    pub b: u64,
-    pub c: u64,
+    a: u64,
+    b: u64,
+    c: u64,
+    // The last, from which the stream goes on.
     pub e: u64,
 }
 

@@ -2,7 +2,7 @@
 
 ghost use Prim.Native.Nat.{_<_};
 
-// Marsaglia's xorshift of 64 bits: a bijection that never leaves 0 or comes to it.
+// Marsaglia's xorshift of 64 bits: a bijection. 0 stays 0, and no other number becomes 0.
 pub fn next(x: u64) -> u64 {
     let a = x ^ (x << 13);
     let b = a ^ (a >> 7);

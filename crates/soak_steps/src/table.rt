@@ -8,10 +8,10 @@ use types::Shape;
 
 pub struct Table {
     pub shape: Shape,
-    pub home0: u32,
-    pub home1: u32,
-    pub home2: u32,
-    pub home3: u32,
+    home0: u32,
+    home1: u32,
+    home2: u32,
+    home3: u32,
     // How the record bytes and the presence words are filled.
     pub records: u32,
     pub presence: u32,

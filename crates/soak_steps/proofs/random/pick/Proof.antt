@@ -1,8 +1,8 @@
--- `pick` stays below `of`, as a remainder does, and shifts by less than 64.
+-- `pick` stays below `of`, as a remainder does, and shifts by less than 64. One way out (returns).
 use native.Mathlib.Nat.{mod-lt}
 use borrow.Author.Needs.{needs}
-use Rattle.dice.proofs.random.pick.Statement.{statement}
-use Rattle.dice.proofs.random.pick.Tie as tie
+use Rattle.soak_steps.proofs.random.pick.Statement.{statement}
+use Rattle.soak_steps.proofs.random.pick.Tie as tie
 
 pub pick-spec : {M : Type 1} → statement M
 pick-spec =

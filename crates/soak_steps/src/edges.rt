@@ -3,7 +3,7 @@ use types::Shape;
 
 // First words by column, as document 01's table has them; ICFGR is the last of each.
 const BASES: [u32; 27] = [
-    0x080,
+    0x080, // the Distributor's
     0x100,
     0x180,
     0x200,
@@ -11,8 +11,8 @@ const BASES: [u32; 27] = [
     0x300,
     0x380,
     0xD00,
-    0xC00, //
-    0x1000,
+    0xC00,
+    0x1000, // its extended ones
     0x1200,
     0x1400,
     0x1600,
@@ -20,8 +20,8 @@ const BASES: [u32; 27] = [
     0x1A00,
     0x1C00,
     0x3400,
-    0x3000, //
-    0x080,
+    0x3000,
+    0x080, // the Redistributor's
     0x100,
     0x180,
     0x200,

@@ -1,6 +1,6 @@
 // A drawn step of a long random run, put to the controller (docs/SOAK.md).
 ghost use Prim.Native.Nat.{_≤_};
-use draws::Request;
+use crate::draws::Request;
 use types::Access;
 use types::Answer;
 use types::Event;
@@ -77,43 +77,59 @@ fn shape_off(shape: Shape, off: u32) -> Shape {
     )
 }
 
-// One step, with what `off` says off its limit for this step alone.
+// The step on the tables and the shape as they are lent for it.
+fn put(
+    dist: &mut [u8],
+    redist: &mut [u8],
+    dist_presence: &[u32],
+    redist_presence: &[u32],
+    shape: Shape,
+    q: Request,
+) -> Answer {
+    if q.class < 33 {
+        return controller::access(
+            dist,
+            redist,
+            dist_presence,
+            redist_presence,
+            shape,
+            access_of(q),
+        );
+    }
+    if q.class == 36 {
+        return controller::reset(dist, redist, dist_presence, redist_presence, shape);
+    }
+    controller::event(
+        dist,
+        redist,
+        dist_presence,
+        redist_presence,
+        shape,
+        q.intid,
+        event_of(q),
+    )
+}
+
+// One step. What `off` names is off its limit for this step alone.
 pub fn ask(
-    d: &mut [u8],
-    r: &mut [u8],
-    dp: &[u32],
-    rp: &[u32],
+    dist: &mut [u8],
+    redist: &mut [u8],
+    dist_presence: &[u32],
+    redist_presence: &[u32],
     shape: Shape,
     off: u32,
     q: Request,
 ) -> Answer {
-    let a = within(lent(off, 1, 2012), d.len());
-    let b = within(lent(off, 3, 96), r.len());
-    let c = within(lent(off, 5, 63), dp.len());
-    let e = within(lent(off, 7, 3), rp.len());
-    let seen = shape_off(shape, off);
-    if q.class < 33 {
-        let access = access_of(q);
-        return controller::access(
-            &mut d[0..a],
-            &mut r[0..b],
-            &dp[0..c],
-            &rp[0..e],
-            seen,
-            access,
-        );
-    }
-    if q.class == 36 {
-        return controller::reset(&mut d[0..a], &mut r[0..b], &dp[0..c], &rp[0..e], seen);
-    }
-    let event = event_of(q);
-    controller::event(
-        &mut d[0..a],
-        &mut r[0..b],
-        &dp[0..c],
-        &rp[0..e],
-        seen,
-        q.intid,
-        event,
+    let dist_bytes = within(lent(off, 1, 2012), dist.len());
+    let redist_bytes = within(lent(off, 3, 96), redist.len());
+    let dist_words = within(lent(off, 5, 63), dist_presence.len());
+    let redist_words = within(lent(off, 7, 3), redist_presence.len());
+    put(
+        &mut dist[0..dist_bytes],
+        &mut redist[0..redist_bytes],
+        &dist_presence[0..dist_words],
+        &redist_presence[0..redist_words],
+        shape_off(shape, off),
+        q,
     )
 }
