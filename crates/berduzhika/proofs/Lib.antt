@@ -1,4 +1,4 @@
-pub mod Judged
+pub mod Gate
 pub mod Fits
 pub mod Unique
 pub mod Stray

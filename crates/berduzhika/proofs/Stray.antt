@@ -13,7 +13,7 @@ use Rattle.meaning.specs.Layout.{Tables}
 use Rattle.meaning.specs.Rule as step
 use Rattle.abi_numbers.specs.Numbers.{oneOrTwo, zeroOrOne, sideOf, shapeOf, requestOf}
 use Rattle.abi_numbers.specs.Code.{joined, shut}
-use Rattle.berduzhika.specs.Told.{Told, judged, accessTold, activateTold, deactivateTold}
+use Rattle.berduzhika.specs.Returned.{Returned, afterGate, accessReturns, activateReturns, deactivateReturns}
 
 weight : Side → ℕ
 weight Secure = 1
@@ -28,16 +28,16 @@ secure-is-two n h = by (eqb n 2) refl
     by false e = let z : _≡_ {A = ℕ} 0 1 = ap weight (ap (λ (b : Bool). cond b Secure NonSecure) (sym e) ∙ h) in absurd (omega (arith, z))
 
 -- what a request gets that names nothing: 100, and every lent byte as it was
-abbrev nothing : Tables → Told
+abbrev nothing : Tables → Returned
 nothing t = record { code = joined 100 0; tables = t }
 
 pub stray-access : (lines espi eppi mbis frame side way width offset value : ℕ) (t : Tables) → oneOrTwo side ≡ false
-    → accessTold lines espi eppi mbis frame side way width offset value t ≡ nothing t
-unfolding judged shut
+    → accessReturns lines espi eppi mbis frame side way width offset value t ≡ nothing t
+unfolding afterGate shut
 stray-access lines espi eppi mbis frame side way width offset value t h = by (oneOrTwo frame) (oneOrTwo side) h
   where
     by : (a b : Bool) → b ≡ false
-        → judged (a && (b && oneOrTwo way)) (zeroOrOne mbis) (shapeOf lines espi eppi mbis)
+        → afterGate (a && (b && oneOrTwo way)) (zeroOrOne mbis) (shapeOf lines espi eppi mbis)
         (step.access (requestOf frame side way width offset value)) t
         ≡ nothing t
     by true true e = absurd (clash refl e)
@@ -45,13 +45,13 @@ stray-access lines espi eppi mbis frame side way width offset value t h = by (on
     by false b e = refl
 
 pub stray-activate : (lines espi eppi mbis side intid : ℕ) (t : Tables) → oneOrTwo side ≡ false
-    → activateTold lines espi eppi mbis side intid t ≡ nothing t
-unfolding judged shut
+    → activateReturns lines espi eppi mbis side intid t ≡ nothing t
+unfolding afterGate shut
 stray-activate lines espi eppi mbis side intid t h =
-    ap (λ (b : Bool). judged b (zeroOrOne mbis) (shapeOf lines espi eppi mbis) (step.happens (Activate (sideOf side)) intid) t) h
+    ap (λ (b : Bool). afterGate b (zeroOrOne mbis) (shapeOf lines espi eppi mbis) (step.happens (Activate (sideOf side)) intid) t) h
 
 pub stray-deactivate : (lines espi eppi mbis side intid : ℕ) (t : Tables) → oneOrTwo side ≡ false
-    → deactivateTold lines espi eppi mbis side intid t ≡ nothing t
-unfolding judged shut
+    → deactivateReturns lines espi eppi mbis side intid t ≡ nothing t
+unfolding afterGate shut
 stray-deactivate lines espi eppi mbis side intid t h =
-    ap (λ (b : Bool). judged b (zeroOrOne mbis) (shapeOf lines espi eppi mbis) (step.happens (Deactivate (sideOf side)) intid) t) h
+    ap (λ (b : Bool). afterGate b (zeroOrOne mbis) (shapeOf lines espi eppi mbis) (step.happens (Deactivate (sideOf side)) intid) t) h

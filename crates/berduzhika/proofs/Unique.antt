@@ -9,17 +9,17 @@ use Rattle.types.specs.declared.Refusal.{Refusal}
 use Rattle.types.specs.declared.Refusal.the-variants as refusal
 use Rattle.types.specs.declared.Answer.{Answer}
 use Rattle.types.specs.declared.Answer.the-variants.{Done, Refused}
-use Rattle.meaning.specs.Answers.{number, statusOf, valueOf}
+use Rattle.meaning.specs.Answers.{statusOf, valueOf}
 use Rattle.meaning.specs.Layout.{Tables}
 use Rattle.meaning.specs.Rule.{Step}
 use Rattle.meaning.specs.Step.{stepped}
 use Rattle.abi_numbers.specs.Code.{joined, codeOf, statusIn, valueIn}
-use Rattle.berduzhika.specs.Told.{Told, told, judged}
+use Rattle.berduzhika.specs.Returned.{Returned, returned, afterGate}
 use Rattle.berduzhika.proofs.Fits.{value-fits}
 
 -- Two results that both meet a promise are equal: their numbers, and every lent byte.
-pub unique : (named sound : Bool) (s : Shape) (q : Step) (t : Tables) (a b : Told) → a ≡ judged named sound s q t
-    → b ≡ judged named sound s q t → a ≡ b
+pub unique : (named sound : Bool) (s : Shape) (q : Step) (t : Tables) (a b : Returned) → a ≡ afterGate named sound s q t
+    → b ≡ afterGate named sound s q t → a ≡ b
 unique named sound s q t a b h k = h ∙ sym k
 
 -- The halves of a number.
@@ -30,11 +30,11 @@ lower : (status value : ℕ) → value < 2 ^ 32 → valueIn (joined status value
 lower status value h = omega arith
 
 -- Behind the gate they are document 01's status and value of the step.
-pub status-back : (s : Shape) (q : Step) (t : Tables) → statusIn ((told (stepped s q t)) .code) ≡ statusOf ((stepped s q t) .answered)
+pub status-back : (s : Shape) (q : Step) (t : Tables) → statusIn ((returned (stepped s q t)) .code) ≡ statusOf ((stepped s q t) .answered)
 unfolding codeOf
 status-back s q t = upper (statusOf ((stepped s q t) .answered)) (valueOf ((stepped s q t) .answered)) (value-fits s q t)
 
-pub value-back : (s : Shape) (q : Step) (t : Tables) → valueIn ((told (stepped s q t)) .code) ≡ valueOf ((stepped s q t) .answered)
+pub value-back : (s : Shape) (q : Step) (t : Tables) → valueIn ((returned (stepped s q t)) .code) ≡ valueOf ((stepped s q t) .answered)
 unfolding codeOf
 value-back s q t = lower (statusOf ((stepped s q t) .answered)) (valueOf ((stepped s q t) .answered)) (value-fits s q t)
 
@@ -85,7 +85,7 @@ below-ten (Refused refusal.Intid) = omega arith
 below-ten (Refused refusal.SgiWire) = omega arith
 below-ten (Refused refusal.State) = omega arith
 
-pub hundred-alone : (s : Shape) (q : Step) (t : Tables) → (told (stepped s q t)) .code ≡ joined 100 0 → ⊥
+pub hundred-alone : (s : Shape) (q : Step) (t : Tables) → (returned (stepped s q t)) .code ≡ joined 100 0 → ⊥
 unfolding codeOf
 hundred-alone s q t e =
     let low = below-ten ((stepped s q t) .answered) in

@@ -1,2 +1,2 @@
 -- What the exported functions promise.
-pub mod Told
+pub mod Returned

@@ -9,7 +9,7 @@
 //   lines espi eppi mbis   the shape: document 01's numbers, mbis 0 or 1
 ghost use mathlib.Core.Path.{_≡_};
 ghost use Rattle.meaning.specs.Layout.{lent};
-ghost use Rattle.berduzhika.specs.Told.{accessTold, wireTold, activateTold, deactivateTold, resetTold};
+ghost use Rattle.berduzhika.specs.Returned.{accessReturns, wireReturns, activateReturns, deactivateReturns, resetReturns};
 use abi_numbers::code_of;
 use abi_numbers::gate;
 use abi_numbers::names_access;
@@ -46,7 +46,7 @@ pub extern "C" fn berduzhika_access(
           code = n;
           tables = lent (now (dist .exit)) (now (redist .exit)) (now («dist_presence» .entry)) (now («redist_presence» .entry));
         }
-        ≡ accessTold lines espi eppi mbis frame side way width offset value
+        ≡ accessReturns lines espi eppi mbis frame side way width offset value
         (lent (now (dist .entry)) (now (redist .entry)) (now («dist_presence» .entry)) (now («redist_presence» .entry)))
         ⌝ }
 {
@@ -78,7 +78,7 @@ pub extern "C" fn berduzhika_wire(
           code = n;
           tables = lent (now (dist .exit)) (now (redist .exit)) (now («dist_presence» .entry)) (now («redist_presence» .entry));
         }
-        ≡ wireTold lines espi eppi mbis intid level
+        ≡ wireReturns lines espi eppi mbis intid level
         (lent (now (dist .entry)) (now (redist .entry)) (now («dist_presence» .entry)) (now («redist_presence» .entry)))
         ⌝ }
 {
@@ -118,7 +118,7 @@ pub extern "C" fn berduzhika_activate(
           code = n;
           tables = lent (now (dist .exit)) (now (redist .exit)) (now («dist_presence» .entry)) (now («redist_presence» .entry));
         }
-        ≡ activateTold lines espi eppi mbis side intid
+        ≡ activateReturns lines espi eppi mbis side intid
         (lent (now (dist .entry)) (now (redist .entry)) (now («dist_presence» .entry)) (now («redist_presence» .entry)))
         ⌝ }
 {
@@ -158,7 +158,7 @@ pub extern "C" fn berduzhika_deactivate(
           code = n;
           tables = lent (now (dist .exit)) (now (redist .exit)) (now («dist_presence» .entry)) (now («redist_presence» .entry));
         }
-        ≡ deactivateTold lines espi eppi mbis side intid
+        ≡ deactivateReturns lines espi eppi mbis side intid
         (lent (now (dist .entry)) (now (redist .entry)) (now («dist_presence» .entry)) (now («redist_presence» .entry)))
         ⌝ }
 {
@@ -196,7 +196,7 @@ pub extern "C" fn berduzhika_reset(
           code = n;
           tables = lent (now (dist .exit)) (now (redist .exit)) (now («dist_presence» .entry)) (now («redist_presence» .entry));
         }
-        ≡ resetTold lines espi eppi mbis
+        ≡ resetReturns lines espi eppi mbis
         (lent (now (dist .entry)) (now (redist .entry)) (now («dist_presence» .entry)) (now («redist_presence» .entry)))
         ⌝ }
 {

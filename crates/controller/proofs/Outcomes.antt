@@ -4,7 +4,7 @@
 --   access-served     an access at a place
 --   event-happened    an event on an interrupt of a frame
 --   all-cleared       reset
-use mathlib.Core.Path.{_≡_, refl, sym, ap, ap₂, subst, _∙_}
+use mathlib.Core.Path.{_≡_, refl, sym, ap, subst, _∙_}
 use mathlib.Core.Bool.{Bool, true, false, cond, _||_}
 use mathlib.Core.List.{List}
 use Prim.Native.Nat.{ℕ, _%_, _<_}
@@ -27,11 +27,11 @@ use Rattle.types.specs.declared.Decoded.{Decoded}
 use Rattle.types.specs.declared.Decoded.the-variants as decoded
 use Rattle.types.specs.declared.Answer.{Answer}
 use Rattle.types.specs.declared.Answer.the-variants.{Done, Refused}
-use Rattle.meaning.specs.Interrupt.{Interrupt, shared, own, same, interrupt, frameOf, named, sgi, between}
+use Rattle.meaning.specs.Interrupt.{Interrupt, shared, same, interrupt, frameOf, named, sgi, between}
 use Rattle.meaning.specs.Layout.{Tables, lent, recordsOf, presenceOf, wellFormed, interruptAt, cellOf}
 use Rattle.meaning.specs.Registers.{placeOf, writtenValue, targetOf}
 use Rattle.meaning.specs.Rule.{Step, access, happens, reset, Deed, idle, happen, clear, writeTo, accessed, deedOf, eventAnswer, act, aims}
-use Rattle.meaning.specs.Step.{read, accessAnswer, answer, tablesWhere, tablesAfter, stepped}
+use Rattle.meaning.specs.Step.{read, accessAnswer, answer, tablesWhere, stepped}
 use Rattle.meaning.proofs.Choices.{cond-true, cond-false}
 use Rattle.meaning.proofs.After.{well-shape, well-lengths}
 use Rattle.table_spans.specs.Span.{spanOf}
@@ -171,7 +171,7 @@ module _ (s : Shape) (t : Tables) (well : wellFormed s t ≡ true) where
         by-way y dist redist
         (h ats named-by (subst (λ (z : Target). NumberedAt z ats) (sym aim) (target-numbered s t well a p e)) refl) (a .way) refl
 
-  -- AN EVENT on the INTID m of the frame f: that bank is the rule's, the other is left
+  -- AN EVENT on the INTID m of the frame f: that bank is the rule's, the other is unchanged
   module _ (e : Event) (m : ℕ) (f : Frame) (here : named m ≡ interrupt f m) where
     apart : (g : Frame) → ((k : ℕ) → same (interrupt f m) (interruptAt g k) ≡ false) → recordsOf g t ≡ after s (happen e m) t g
     unfolding aims

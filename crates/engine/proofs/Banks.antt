@@ -4,17 +4,16 @@
 --   unaimed-bank, idle-bank    so does one that aims at none of them
 --   same-slot    a slot has one interrupt, and that has one slot
 --   one-meant    a deed that aims at one interrupt: the record at its slot, if it has one, and no other
-use mathlib.Core.Path.{_≡_, refl, sym, ap, ap₂, _∙_}
-use mathlib.Core.Bool.{Bool, true, false, cond, _&&_}
+use mathlib.Core.Path.{_≡_, refl, sym, ap, _∙_}
+use mathlib.Core.Bool.{Bool, true, false}
 use mathlib.Core.List.{List}
-use Prim.Native.Nat.{ℕ, _+_, _-_, _%_, _≤_, _<_}
+use Prim.Native.Nat.{ℕ, _+_, _%_, _≤_, _<_}
 use native.Mathlib.Omega.{arith}
 use native.Mathlib.Decide.{decLt}
 use native.Mathlib.Nat.{div-one, add-zero}
 use lib.Dec.{eqb, ltb}
-use lib.ListN.{length, getD, set}
+use lib.ListN.{getD, set}
 use borrow.Author.Tests.{lt-ltb, le-ltb}
-use Rattle.lists.specs.Map.{mapFrom}
 use Rattle.lists.specs.Word.{bitAt}
 use Rattle.lists.proofs.Maps.{mapFrom-same, mapFrom-set}
 use Rattle.types.specs.declared.Frame.{Frame}
@@ -49,7 +48,7 @@ module _ (s : Shape) (t : Tables) (fit : lengthsFit t ≡ true) (f : Frame) wher
   pub number-at : (k : ℕ) → k < slots f → encode (cellOf s t (interruptAt f k)) ≡ getD (recordsOf f t) k 0
   number-at k l = record-of s t (interruptAt f k) ∙ ap (recordAt t) (slot-home f k l .1)
 
-  pub bank-left : (d : Deed)
+  bank-left : (d : Deed)
       → ((k : ℕ) → k < slots f → performed s d (interruptAt f k) (cellOf s t (interruptAt f k)) ≡ cellOf s t (interruptAt f k))
       → after s d t f ≡ recordsOf f t
   unfolding column
@@ -76,7 +75,7 @@ module _ (s : Shape) (t : Tables) (fit : lengthsFit t ≡ true) (f : Frame) (m :
   first : interrupt f (m + 0) ≡ I
   first = ap (interrupt f) (add-zero m)
 
-  pub slot-inside : p .start < p .end → p .start < slots f
+  slot-inside : p .start < p .end → p .start < slots f
   slot-inside l = let i = sp .inside in omega arith
 
   slot-here : p .start < p .end → interruptAt f (p .start) ≡ I
@@ -96,7 +95,7 @@ module _ (s : Shape) (t : Tables) (fit : lengthsFit t ≡ true) (f : Frame) (m :
     abbrev left-at : ℕ → Type 0
     left-at k = performed s d (interruptAt f k) (cellOf s t (interruptAt f k)) ≡ cellOf s t (interruptAt f k)
 
-    -- a slot is left, unless it is that of m and has a reason
+    -- a slot is unchanged, unless it is that of m and has a reason
     other-slot : (k : ℕ) → (interruptAt f k ≡ I → left-at k) → left-at k
     other-slot k h = by (aims s d (interruptAt f k)) refl
       where

@@ -12,7 +12,6 @@ use lib.Dec.{eqb, ltb}
 use borrow.Author.Tests.{eq-eqb, lt-ltb, le-ltb}
 use Rattle.lists.specs.Map.{mapFrom}
 use Rattle.lists.proofs.Maps.{mapFrom-cong}
-use Rattle.lists.proofs.Bools.{and-left, clash}
 use Rattle.types.specs.declared.Frame.{Frame}
 use Rattle.types.specs.declared.Frame.the-variants.{Dist}
 use Rattle.types.specs.declared.Side.{Side}
@@ -20,12 +19,11 @@ use Rattle.types.specs.declared.Shape.{Shape}
 use Rattle.types.specs.declared.Message.{Message}
 use Rattle.types.specs.declared.Event.{Event}
 use Rattle.types.specs.declared.Refusal.the-variants as refusal
-use Rattle.types.specs.declared.Answer.{Answer}
 use Rattle.types.specs.declared.Answer.the-variants.{Refused}
 use Rattle.meaning.specs.Interrupt.{Interrupt, shared, own, same, interrupt, named}
 use Rattle.meaning.specs.Cell.{Cell, decode, encode}
 use Rattle.meaning.specs.Layout.{Tables, recordsOf, lengthsFit, interruptAt, cellOf}
-use Rattle.meaning.specs.Rule.{Deed, send, happen, clear, addresses, maySend, sent, seesBy, ready, eventAnswer, isDone, happened}
+use Rattle.meaning.specs.Rule.{send, happen, clear, addresses, maySend, sent, seesBy, ready, eventAnswer, isDone, happened}
 use Rattle.meaning.specs.Rule.{aims, admits, effect, performed}
 use Rattle.meaning.specs.Step.{column}
 use Rattle.meaning.proofs.Choices.{cond-true, cond-false}
@@ -34,7 +32,7 @@ use Rattle.meaning.proofs.Aims.{same-true, same-self, addressed}
 use Rattle.record_messages.specs.Delivered.{delivered}
 use Rattle.table_spans.specs.declared.Span.{Span}
 use Rattle.table_spans.proofs.Spanned.{Spanned}
-use Rattle.engine.specs.Bank.{cellIn, onSlot, sentIn, eventful, answerIn, zeroed}
+use Rattle.engine.specs.Bank.{onSlot, sentIn, eventful, answerIn, zeroed}
 use Rattle.engine.proofs.Banks.{after, unaimed-bank, cell-here, missing-here, one-meant}
 
 -- the same done at every cell is the same done at the slot

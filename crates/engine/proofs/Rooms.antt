@@ -21,7 +21,7 @@ use Rattle.types.specs.declared.Window.{Window}
 use Rattle.types.specs.declared.Target.{Target}
 use Rattle.types.specs.declared.Target.the-variants.{Digits, Typer, Message}
 use Rattle.meaning.specs.Interrupt.{Interrupt}
-use Rattle.meaning.specs.Layout.{lent, recordsOf, slots, presenceWords}
+use Rattle.meaning.specs.Layout.{lent, recordsOf, slots}
 use Rattle.meaning.specs.Registers.{writtenValue}
 use Rattle.meaning.specs.Step.{typer}
 use Rattle.register_families.specs.Fits.{Fits}

@@ -14,9 +14,9 @@ use Rattle.types.specs.declared.Window.{Window}
 use Rattle.types.specs.declared.Target.{Target}
 use Rattle.types.specs.declared.Target.the-variants.{Digits, Typer, Message}
 use Rattle.meaning.specs.Interrupt.{Interrupt, shared, intid, interrupt, inFrame, between}
-use Rattle.meaning.specs.Layout.{Tables, lent, recordsOf, presenceOf, lengthsFit, wellFormed, shapeFits, interruptAt, cellOf}
+use Rattle.meaning.specs.Layout.{Tables, lent, recordsOf, presenceOf, lengthsFit, wellFormed, interruptAt, cellOf}
 use Rattle.meaning.specs.Registers.{names}
-use Rattle.meaning.specs.Rule.{Deed, write, send, writeTo, addresses, aims}
+use Rattle.meaning.specs.Rule.{write, send, writeTo, addresses, aims}
 use Rattle.meaning.specs.Step.{read}
 use Rattle.meaning.proofs.After.{well-shape, well-lengths}
 use Rattle.register_families.specs.Fits.{Fits}
@@ -25,7 +25,7 @@ use Rattle.table_spans.proofs.Spanned.{Spanned, spanned}
 use Rattle.engine.specs.Bank.{windowSpan, readIn, writtenIn}
 use Rattle.engine.specs.Target.{frameAt, FitsAt, readAt, inBank, writtenAt}
 use Rattle.engine.proofs.Banks.{after, unaimed-bank, idle-bank}
-use Rattle.engine.proofs.Words.{at, write-meant, read-meant}
+use Rattle.engine.proofs.Words.{write-meant, read-meant}
 use Rattle.engine.proofs.Ones.{message-meant}
 
 -- the interrupts that a target's digits stand for, and the one that a message names
@@ -55,7 +55,7 @@ module _ (s : Shape) (t : Tables) (well : wellFormed s t ≡ true) where
   read-target side Typer room = refl
   read-target side (Message g) room = refl
 
-  -- WRITES to a register word: the rule in its frame, and the other frame is left
+  -- WRITES to a register word: the rule in its frame, and the other frame is unchanged
   module _ (side : Side) (w : Window) (v : ℕ) (room : Fits w) where
     abbrev G : List ℕ → List ℕ
     G xs = writtenIn s (interruptsOf (Digits w)) side w v (windowSpan s (presenceOf (w .frame) t) w) xs

@@ -4,13 +4,13 @@
 --   at-slot, at-none     what is done at its first slot, if it has one
 --   happened-slot, happened-none, refused-same, done-set, sent-off, sent-on    an event and a message there
 use mathlib.Core.Path.{_≡_, sym, ap, subst, _∙_}
-use mathlib.Core.Bool.{Bool, true, false, cond}
+use mathlib.Core.Bool.{Bool, true, false}
 use mathlib.Core.List.{List}
 use Prim.Native.Nat.{ℕ, _+_, _-_, _%_, _≤_, _<_}
 use native.Mathlib.Omega.{arith}
 use native.Mathlib.Nat.{le-trans, mul-le-mul-right}
 use lib.Dec.{ltb}
-use lib.ListN.{length, getD, take, drop, set, length-take}
+use lib.ListN.{length, getD, drop, set, length-take}
 use lib.Seq.{set-getD}
 use borrow.Author.Tests.{lt-ltb, le-ltb}
 use Rattle.types.specs.declared.Frame.{Frame}
@@ -30,7 +30,7 @@ use Rattle.meaning.proofs.Choices.{cond-true, cond-false}
 use Rattle.meaning.proofs.Bytes.{encode-decode}
 use Rattle.register_families.specs.Fits.{Fits}
 use Rattle.record_messages.specs.Delivered.{delivered}
-use Rattle.table_words.specs.Part.{Fitting, Numbered}
+use Rattle.table_words.specs.Part.{FitsWord, Numbered}
 use Rattle.table_spans.specs.declared.Span.{Span}
 use Rattle.table_spans.specs.Span.{spanOf}
 use Rattle.table_spans.proofs.Spanned.{Bounded, bounded}
@@ -53,7 +53,7 @@ pub fewer : (w : Window) (p : Span) (xs : List ℕ) (at : ℕ → Interrupt) →
 fewer w p xs at short n x l = n x (let u = few p xs in let v : x < length (part p xs) = l in omega arith)
 
 pub fitting : (w : Window) → Fits w → (side : Side) (p : Span) (xs : List ℕ) → p .end - p .start ≤ w .count
-    → Fitting (wordOf side w p) (part p xs)
+    → FitsWord (wordOf side w p) (part p xs)
 fitting w room side p xs short =
     let l = few p xs in
     let all : length (part p xs) ≤ w .count = omega arith in

@@ -9,9 +9,8 @@ use mathlib.Core.Logic.{_⊎_, inl, inr}
 use Prim.Native.Nat.{ℕ, _+_, _-_, _≤_, _<_}
 use native.Mathlib.Omega.{arith}
 use native.Mathlib.Decide.{decLt}
-use lib.ListN.{length, getD, take, drop, length-take, length-drop}
+use lib.ListN.{length, getD, drop, length-take, length-drop}
 use lib.Seq.{getD-take, getD-drop}
-use Rattle.lists.specs.Map.{mapFrom}
 use Rattle.lists.specs.Word.{bitAt, digitAt, row}
 use Rattle.lists.proofs.Maps.{mapFrom-part}
 use Rattle.lists.proofs.Rows.{row-same, row-cut}
@@ -65,7 +64,7 @@ module _ (s : Shape) (t : Tables) (fit : lengthsFit t ≡ true) (side : Side) (w
   abbrev xs : List ℕ
   xs = recordsOf (w .frame) t
 
-  abbrev pub at : ℕ → Interrupt
+  abbrev at : ℕ → Interrupt
   at x = interrupt (w .frame) (w .first + x)
 
   abbrev kind : Kind

@@ -17,7 +17,7 @@ use Rattle.lists.proofs.Bools.{clash}
 use Rattle.lists.proofs.Maps.{is-mapFrom}
 use Rattle.lists.proofs.Ones.{without, without-same, without-other}
 
--- `value` is the word, `rest` what is left of it
+-- `value` is the word, `rest` what remains of it
 pub record Jumped (f : ℕ → ℕ → ℕ) (old new : List ℕ) (value rest : ℕ) : Type 0 where
   pub same : length new ≡ length old
   pub ones : (k : ℕ) → k < length old → bitAt rest k ≡ true → bitAt value k ≡ true

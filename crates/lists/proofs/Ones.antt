@@ -46,7 +46,8 @@ at-count zero v h = absurd (not-suc-le-zero h)
 at-count (suc k) v h = by (v % 2) refl h (λ l. at-count k (v / 2) l)
   where
     by : (d : ℕ) → v % 2 ≡ d → under d (trailingZeros k (v / 2)) < suc k
-        → (trailingZeros k (v / 2) < k → bitAt (v / 2) (trailingZeros k (v / 2)) ≡ true) → bitAt v (under d (trailingZeros k (v / 2))) ≡ true
+        → (trailingZeros k (v / 2) < k → bitAt (v / 2) (trailingZeros k (v / 2)) ≡ true)
+        → bitAt v (under d (trailingZeros k (v / 2))) ≡ true
     by zero e l rest = bit-suc v (trailingZeros k (v / 2)) ∙ rest (le-of-suc-le-suc l)
     by (suc d) e l rest = bit-zero v ∙ eq-eqb (v % 2) 1 (let u = mod-lt v {m = 2} (omega arith) in omega arith)
 

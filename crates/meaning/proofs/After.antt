@@ -4,7 +4,7 @@
 --   rest-stays      what is above a number's eight bits is changed by a reset alone
 --   lengths-kept, well-kept    a step leaves the lengths, and so tables that are well-formed
 --   answer-well, tables-well   on well-formed tables, the answer and the tables after
-use mathlib.Core.Path.{_≡_, refl, sym, ap, ap₂, _∙_}
+use mathlib.Core.Path.{_≡_, refl, sym, ap, _∙_}
 use mathlib.Core.Bool.{Bool, true, false, _&&_, and-false}
 use mathlib.Core.List.{List}
 use Prim.Native.Nat.{ℕ, _/_, _%_, _<_, _≤_}
@@ -13,7 +13,6 @@ use native.Mathlib.Decide.{decLt}
 use lib.Dec.{eqb}
 use lib.ListN.{length, getD, List·getD-eq-default}
 use borrow.Author.Tests.{eqb-true}
-use Rattle.lists.specs.Map.{mapFrom}
 use Rattle.lists.proofs.Maps.{length-mapFrom, at-mapFrom}
 use Rattle.lists.proofs.Bools.{and-left, and-right, clash}
 use Rattle.types.specs.declared.Frame.{Frame}
@@ -173,7 +172,7 @@ module _ (s : Shape) (q : Step) (t : Tables) (fit : lengthsFit t ≡ true) where
   cell-after i = encoded i ∙ decode-encode (after i)
 
   -- a slot of the tables after is its interrupt's number
-  pub slot-after : (r : Frame) (k : ℕ) → k < slots r → getD (recordsOf r (tablesAfter s q t)) k 0 ≡ encode (after (interruptAt r k))
+  slot-after : (r : Frame) (k : ℕ) → k < slots r → getD (recordsOf r (tablesAfter s q t)) k 0 ≡ encode (after (interruptAt r k))
   slot-after r k l =
       ap (λ (xs : List ℕ). getD xs k 0) (records-after r)
       ∙ column-at after encode r (recordsOf r t) k (rw (records-length t fit r) l)

@@ -27,7 +27,7 @@ use Rattle.meaning.specs.Interrupt.{Interrupt, shared, own, intid, same,
 use Rattle.meaning.specs.Cell.{Cell, get, put}
 use Rattle.meaning.specs.Registers.{kindOf, bitsOf, names}
 use Rattle.meaning.specs.Rule.{Deed, write, bitOf, switched, update, reaches, addresses, aims, admits, effect, performed}
-use Rattle.meaning.proofs.Choices.{cond-shut, cond-keeps, no-true}
+use Rattle.meaning.proofs.Choices.{cond-keeps}
 use Rattle.meaning.proofs.Cells.{put-get}
 use Rattle.meaning.proofs.Homes.{between-low, between-high}
 
@@ -91,7 +91,7 @@ word-quiet s side w v i c on b k z =
     ∙ zero-quiet s side on b _ i c (z (and-left (names w i) _ t)))
 
 -- bit x is the only 1 of the 32-bit value v
-abbrev pub onlyBit : ℕ → ℕ → Bool
+abbrev onlyBit : ℕ → ℕ → Bool
 onlyBit v x = every (λ j. eqb j x || not (eqb (digitAt 1 j v) 1)) 0 32
 
 other-bit : (v x j : ℕ) → onlyBit v x ≡ true → j < 32 → (j ≡ x → ⊥) → eqb (digitAt 1 j v) 1 ≡ false

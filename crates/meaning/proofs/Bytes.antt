@@ -10,7 +10,7 @@ use borrow.Author.Tests.{eqb-true, eqb-false}
 use Rattle.lists.specs.Word.{digit}
 use Rattle.types.specs.declared.Bit.{Bit}
 use Rattle.types.specs.declared.Bit.the-variants.{Enabled, Latch, Wire, MessageLevel, Active, Edge, Group, Modifier}
-use Rattle.meaning.specs.Cell.{Cell, value, has, get, put, decode, encode}
+use Rattle.meaning.specs.Cell.{Cell, value, get, decode, encode}
 
 pub digit-small : (b : Bool) → digit b ≤ 1
 digit-small true = omega arith

@@ -1,13 +1,13 @@
 -- K1 to K12 hold of the rule, for every interrupt: by computing at the interrupt that a step names, and elsewhere because it aims at none.
 --   all-hold    the whole table, for every start of K10 and K11, every value of K10 and both sides
 use mathlib.Core.Path.{_≡_, refl, sym, ap, subst, _∙_}
-use mathlib.Core.Bool.{Bool, true, false, cond, _&&_}
+use mathlib.Core.Bool.{Bool, true, false, cond}
 use mathlib.Core.List.{[], _∷_}
 use Prim.Native.Nat.{ℕ, _≤_, _<_}
 use native.Mathlib.Omega.{arith}
 use borrow.Author.Tests.{le-ltb}
 use Rattle.lists.specs.Word.{digitAt, row}
-use Rattle.lists.proofs.Bools.{and-left, clash}
+use Rattle.lists.proofs.Bools.{clash}
 use Rattle.types.specs.declared.Frame.the-variants.{Dist, Redist}
 use Rattle.types.specs.declared.Side.{Side}
 use Rattle.types.specs.declared.Side.the-variants.{NonSecure}
@@ -22,16 +22,16 @@ use Rattle.meaning.specs.Interrupt.{Interrupt, shared, own, intid, same,
 use Rattle.meaning.specs.Cell.{Cell, get, put, decode, nonSecure, edgeOf, pending}
 use Rattle.meaning.specs.Layout.{inRange}
 use Rattle.meaning.specs.Registers.{rowOf, inColumn, inMessages, listed, placeOf, writtenValue, targetOf, names}
-use Rattle.meaning.specs.Rule.{Step, access, happens, write, send, happen, deedOf, sees, mayTouch, reaches, switched, update}
+use Rattle.meaning.specs.Rule.{Step, happens, write, send, happen, deedOf, sees, mayTouch, reaches, switched, update}
 use Rattle.meaning.specs.Rule.{shows, visible, addresses, maySend, sent, eventAnswer, happened, aims, admits, effect, performed, act}
 use Rattle.meaning.specs.Step.{answer, wordRead, read, typer}
 use Rattle.meaning.specs.Cases.{bench, Records, present, naming, _is_, from, writes, cases, Hold}
-use Rattle.meaning.proofs.Choices.{cond-keeps, no-true}
+use Rattle.meaning.proofs.Choices.{no-true}
 use Rattle.meaning.proofs.Homes.{between-above}
 use Rattle.meaning.proofs.Gates.{missing-left}
 use Rattle.meaning.proofs.Aims.{same-true, same-self, unaimed-left, named-here, named-low, named-high, addressed, bit-quiet}
 
--- every interrupt but k is left
+-- every interrupt but k is unchanged
 abbrev Only : Step → ℕ → Type 0
 Only q k = (i : Interrupt) → same (named k) i ≡ false → (c : Cell) → act bench q i c ≡ c
 

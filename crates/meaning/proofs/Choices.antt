@@ -2,7 +2,7 @@
 --   chosen    what holds of both, each where it is chosen, holds of the choice
 --   cond-keeps, cond-both, cond-alike, cond-shut, cond-true, cond-false    the same, of what is known of the things or of the test
 use mathlib.Core.Path.{_≡_, refl, sym, ap}
-use mathlib.Core.Bool.{Bool, true, false, cond, not, _&&_, _||_}
+use mathlib.Core.Bool.{Bool, true, false, cond, not}
 
 module _ {A B : Type 0} where
   -- what the first keeps, where it is chosen, is kept

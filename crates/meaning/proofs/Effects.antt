@@ -2,7 +2,7 @@
 -- Rule.antt were wrong, or `nonSecure` of Cell.antt, one of these would fail.
 use mathlib.Core.Path.{_≡_, refl, ap, ap₂, subst⁻¹, _∙_}
 use mathlib.Core.Bool.{Bool, true, false, cond, not, _&&_, _||_, Bool·beq}
-use Prim.Native.Nat.{ℕ, _+_, _*_, _-_, _/_, _%_, _^_, _≤_}
+use Prim.Native.Nat.{ℕ, _*_, _-_, _/_, _%_, _^_, _≤_}
 use native.Mathlib.Omega.{arith}
 use lib.Dec.{eqb, ltb, leb}
 use Rattle.lists.specs.Word.{digit}
@@ -12,8 +12,7 @@ use Rattle.types.specs.declared.Side.the-variants.{Secure, NonSecure}
 use Rattle.types.specs.declared.Shape.{Shape}
 use Rattle.types.specs.declared.Way.{Way}
 use Rattle.types.specs.declared.Way.the-variants.{Read, Write}
-use Rattle.types.specs.declared.Bit.{Bit}
-use Rattle.types.specs.declared.Bit.the-variants.{Enabled, Latch, Wire, MessageLevel, Active, Edge, Group, Modifier}
+use Rattle.types.specs.declared.Bit.the-variants.{Latch, Wire, MessageLevel, Active, Group, Modifier}
 use Rattle.types.specs.declared.Switch.{Switch}
 use Rattle.types.specs.declared.Switch.the-variants as switch
 use Rattle.types.specs.declared.Guard.{Guard}
@@ -21,17 +20,17 @@ use Rattle.types.specs.declared.Guard.the-variants as guard
 use Rattle.types.specs.declared.Kind.{Kind}
 use Rattle.types.specs.declared.Kind.the-variants.{Switched, Guarded, Trigger}
 use Rattle.types.specs.declared.Message.{Message}
-use Rattle.types.specs.declared.Message.the-variants.{SetspiNsr, ClrspiNsr, SetspiSr, ClrspiSr}
+use Rattle.types.specs.declared.Message.the-variants.{SetspiSr, ClrspiSr}
 use Rattle.types.specs.declared.Event.{Event}
 use Rattle.types.specs.declared.Event.the-variants as event
 use Rattle.types.specs.declared.Window.{Window}
 use Rattle.types.specs.declared.Refusal.the-variants as refusal
 use Rattle.types.specs.declared.Answer.the-variants.{Done, Refused}
 use Rattle.meaning.specs.Interrupt.{Interrupt, sgi}
-use Rattle.meaning.specs.Cell.{Cell, get, put, decode, encode, nonSecure, edgeOf, pending}
+use Rattle.meaning.specs.Cell.{Cell, get, put, encode, nonSecure, edgeOf, pending}
 use Rattle.meaning.specs.Answers.{statusOf}
 use Rattle.meaning.specs.Registers.{kindOf}
-use Rattle.meaning.specs.Rule.{write, send, reset, deedOf, sees, mayTouch, reaches, bitOf, switched, guarded, fixedField}
+use Rattle.meaning.specs.Rule.{write, send, reset, deedOf, sees, mayTouch, reaches, bitOf, switched, fixedField}
 use Rattle.meaning.specs.Rule.{configured, update, stateOf, shows, visible, secureOnly, sets, addresses, maySend, sent}
 use Rattle.meaning.specs.Rule.{seesBy, ready, eventAnswer, happened, aims, admits, effect, performed, act}
 use Rattle.meaning.specs.Step.{typer}

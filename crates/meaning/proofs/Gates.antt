@@ -1,6 +1,6 @@
 -- THE GATES: a deed that a cell admits comes from a side that may come to the interrupt. What follows:
 --   performed-left   a deed of a side that may not come to an interrupt leaves it
---   missing-left     so a missing interrupt is left by every deed but reset,
+--   missing-left     so a missing interrupt is unchanged by every deed but reset,
 --   missing-unseen   and reads 0
 --   secure-left      and a Non-secure deed leaves what the Non-secure side does not own,
 --   secure-unseen    sees 0 of it
@@ -39,7 +39,7 @@ module _ (s : Shape) (i : Interrupt) (c : Cell) where
   touch-comes Secure w k h t = h
   touch-comes NonSecure w k h t = sees-comes NonSecure h (and-right (not (secureKind k)) (sees NonSecure c) t)
 
-  pub reach-comes : (side : Side) (w : Way) (k : Kind) → reaches s side w k i c ≡ true → comesTo side i c ≡ true
+  reach-comes : (side : Side) (w : Way) (k : Kind) → reaches s side w k i c ≡ true → comesTo side i c ≡ true
   unfolding reaches
   reach-comes side w k t =
       touch-comes side w k (and-left (c .implemented) (mayTouch side w k i c) t) (and-right (c .implemented) (mayTouch side w k i c) t)
@@ -77,7 +77,7 @@ module _ (s : Shape) (i : Interrupt) (c : Cell) where
   admit-comes clear r t = absurd (clash refl r)
 
   -- THE LAWS OF ONE INTERRUPT
-  pub performed-left : (d : Deed) → isClear d ≡ false → comesTo (sideOf d) i c ≡ false → performed s d i c ≡ c
+  performed-left : (d : Deed) → isClear d ≡ false → comesTo (sideOf d) i c ≡ false → performed s d i c ≡ c
   unfolding performed
   performed-left d r h =
       cond-shut (aims s d i && admits s d i c) (effect s d i c) c

@@ -1,5 +1,5 @@
 -- Interrupts and slots undo each other.
---   between-in, -below, -above, -low, -high   what `between` says
+--   between-in, -above, -low, -high   what `between` says
 --   home-back    the slot of an interrupt keeps that interrupt
 --   slot-home    the interrupt of a slot has its home there
 --   home-past    an interrupt whose slot is past its table is out of range
@@ -8,7 +8,7 @@ use mathlib.Core.Bool.{Bool, true, false, cond, _&&_}
 use Prim.Native.Nat.{ℕ, _+_, _-_, _/_, _≤_, _<_}
 use native.Mathlib.Omega.{arith}
 use lib.Dec.{ltb, leb}
-use borrow.Author.Tests.{ltb-true, ltb-false, leb-true, lt-ltb, le-ltb, le-leb, lt-leb}
+use borrow.Author.Tests.{ltb-true, ltb-false, leb-true, lt-ltb, le-ltb, le-leb}
 use Rattle.lists.proofs.Bools.{and-left, and-right, both}
 use Rattle.types.specs.declared.Frame.{Frame}
 use Rattle.types.specs.declared.Frame.the-variants.{Dist, Redist}
@@ -19,9 +19,6 @@ use Rattle.meaning.proofs.Choices.{chosen}
 
 pub between-in : (lo hi m : ℕ) → lo ≤ m → m < hi → between lo hi m ≡ true
 between-in lo hi m h k = both (leb lo m) (ltb m hi) (le-leb lo m h) (lt-ltb m hi k)
-
-pub between-below : (lo hi m : ℕ) → m < lo → between lo hi m ≡ false
-between-below lo hi m h = ap (λ (b : Bool). b && ltb m hi) (lt-leb lo m h)
 
 pub between-above : (lo hi m : ℕ) → lo ≤ m → hi ≤ m → between lo hi m ≡ false
 between-above lo hi m h k = ap₂ (λ (a b : Bool). a && b) (le-leb lo m h) (le-ltb m hi k)

@@ -89,7 +89,7 @@ module _ {A : Type 0} (g : Cell → A) (p : Guard → Bool) (blind : Blind g p) 
   happened-kept (event.Deactivate side) = blind Active refl _ c
 
   -- THE LAW
-  pub performed-kept : (d : Deed) → rewrites p d ≡ false → g (performed s d i c) ≡ g c
+  performed-kept : (d : Deed) → rewrites p d ≡ false → g (performed s d i c) ≡ g c
   unfolding performed effect admits rewrites
   performed-kept d h =
       cond-keeps g (aims s d i && admits s d i c) (effect s d i c) c (λ t. by d h (and-right (aims s d i) (admits s d i c) t))

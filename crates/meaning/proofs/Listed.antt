@@ -59,7 +59,7 @@ module _ (a : Access) where
 
       module _ (o : ltb 65535 (a .offset) ≡ false) where
         -- then the aligned word decides, and after it the width
-        pub placed : placeOf a ≡ ifWide (a .width) (a .offset % 4) (listed (a .frame) (a .offset - a .offset % 4))
+        placed : placeOf a ≡ ifWide (a .width) (a .offset % 4) (listed (a .frame) (a .offset - a .offset % 4))
         unfolding placeOf
         placed = rw (w, m, o) refl
 

@@ -1,5 +1,5 @@
 -- The shape's limits, which interrupts are in range, and where the four lent tables keep one: document 01's "Shape and tables".
-use mathlib.Core.Bool.{Bool, true, false, cond, _&&_, _||_}
+use mathlib.Core.Bool.{Bool, false, cond, _&&_, _||_}
 use mathlib.Core.List.{List}
 use Prim.Native.Nat.{ℕ, _+_, _*_, _-_, _/_, _%_, min}
 use lib.Dec.{eqb, ltb, leb}

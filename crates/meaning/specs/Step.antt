@@ -1,5 +1,5 @@
 -- What a step is answered, and the lent tables after it: the whole machine, from the rule of one interrupt.
-use mathlib.Core.Bool.{Bool, cond}
+use mathlib.Core.Bool.{cond}
 use mathlib.Core.List.{List}
 use Prim.Native.Nat.{ℕ, _+_, _*_, _-_, _^_}
 use lib.Dec.{ltb}
@@ -21,7 +21,7 @@ use Rattle.types.specs.declared.Answer.{Answer}
 use Rattle.types.specs.declared.Answer.the-variants.{Done, Refused}
 use Rattle.meaning.specs.Interrupt.{Interrupt, interrupt, named}
 use Rattle.meaning.specs.Cell.{Cell, encode}
-use Rattle.meaning.specs.Layout.{Tables, recordsOf, interruptAt, cellOf, wellFormed}
+use Rattle.meaning.specs.Layout.{Tables, interruptAt, cellOf, wellFormed}
 use Rattle.meaning.specs.Registers.{kindOf, bitsOf, placeOf, targetOf}
 use Rattle.meaning.specs.Rule.{Step, access, happens, reset, act, visible, eventAnswer}
 

@@ -33,7 +33,7 @@ pub fn is_pending(soft: bool, r: u8) -> bool
 }
 
 // Group 1, whatever the modifier.
-pub fn non_secure(r: u8) -> bool
+fn non_secure(r: u8) -> bool
     ensures { λ x. ⌜ ((p : Bool) → x ≡ nonSecure (decode p r)) ⌝ }
 {
     has(Bit::Group, r)

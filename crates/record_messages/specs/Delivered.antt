@@ -1,4 +1,4 @@
--- A message behind the gate: a missing interrupt, and one that the side may not name, is left.
+-- A message behind the gate: a missing interrupt, and one that the side may not name, is unchanged.
 use mathlib.Core.Bool.{cond, _&&_}
 use Rattle.types.specs.declared.Shape.{Shape}
 use Rattle.types.specs.declared.Side.{Side}

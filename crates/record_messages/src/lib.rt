@@ -59,7 +59,7 @@ fn sent(g: Message, r: u8) -> u8
     }
 }
 
-// The same behind the gate: a missing interrupt, and one that the side may not name, is left.
+// The same behind the gate: a missing interrupt, and one that the side may not name, is unchanged.
 pub fn deliver(side: Side, g: Message, implemented: bool, r: u8) -> u8
     ensures { λ x. ⌜ ((s : Shape) (i : Interrupt) → sgi i ≡ false → x ≡ encode (delivered s side g i (decode implemented r))) ⌝ }
 {

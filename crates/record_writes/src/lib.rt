@@ -58,7 +58,7 @@ fn updated(kind: Kind, d: u32, soft: bool, r: u8) -> u8
     }
 }
 
-// The same behind the gate: a missing interrupt, and one that the side may not touch, is left.
+// The same behind the gate: a missing interrupt, and one that the side may not touch, is unchanged.
 pub fn touched(side: Side, kind: Kind, implemented: bool, d: u32, soft: bool, r: u8) -> u8
     ensures { λ x. ⌜ ((s : Shape) (i : Interrupt) → sgi i ≡ soft → x ≡ encode (touched s side kind d i (decode implemented r))) ⌝ }
 {

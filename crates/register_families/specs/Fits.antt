@@ -1,5 +1,5 @@
 -- A window that a register word can have.
-use Prim.Native.Nat.{ℕ, _+_, _*_, _%_, _≤_}
+use Prim.Native.Nat.{_+_, _*_, _%_, _≤_}
 use Rattle.types.specs.declared.Window.{Window}
 use Rattle.meaning.specs.Registers.{bitsOf}
 

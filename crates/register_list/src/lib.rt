@@ -24,7 +24,7 @@ use types::Place;
 use types::Refusal;
 
 // What stands at an offset.
-pub enum Entry {
+enum Entry {
     Register(Family),
     Extended(Family),
     Message(Message),

@@ -89,7 +89,7 @@ module _ (s : Shape) (t u : Tables) (wt : wellFormed s t ≡ true) (wu : wellFor
       let both = sym (owned-here s t i) ∙ o in
       ap₂ decode (h .presence i) (h .records i (and-left (implemented s t i) _ both) (and-right (implemented s t i) _ both))
 
-  pub alike-indistinct : Indistinct s t u
+  alike-indistinct : Indistinct s t u
   alike-indistinct =
       record {
         first = wt;

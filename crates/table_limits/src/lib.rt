@@ -4,13 +4,13 @@ ghost use lib.ListN.{length};
 ghost use Rattle.meaning.specs.Layout.{Tables, shapeFits, lengthsFit, wellFormed};
 use types::Shape;
 
-pub fn shape_fits(shape: Shape) -> bool
+fn shape_fits(shape: Shape) -> bool
     ensures { λ r. ⌜ r ≡ shapeFits shape ⌝ }
 {
     (shape.lines <= 31) & ((shape.espi <= 32) & (shape.eppi <= 2))
 }
 
-pub fn lengths_fit(dist: usize, redist: usize, dist_presence: usize, redist_presence: usize) -> bool
+fn lengths_fit(dist: usize, redist: usize, dist_presence: usize, redist_presence: usize) -> bool
     ensures { λ r. ⌜
         ((t : Tables) → length (t .dist) ≡ dist → length (t .redist) ≡ redist → length (t .distPresence) ≡ «dist_presence»
         → length (t .redistPresence) ≡ «redist_presence» → r ≡ lengthsFit t)

@@ -11,8 +11,8 @@ use Rattle.lists.proofs.Bools.{and-left, and-right}
 use Rattle.types.specs.declared.Frame.{Frame}
 use Rattle.types.specs.declared.Frame.the-variants.{Dist, Redist}
 use Rattle.types.specs.declared.Shape.{Shape}
-use Rattle.meaning.specs.Interrupt.{Interrupt, shared, own, interrupt, between}
-use Rattle.meaning.specs.Layout.{Home, slot, homeOf, inRange, shapeFits, slots, presenceWords}
+use Rattle.meaning.specs.Interrupt.{shared, own, interrupt, between}
+use Rattle.meaning.specs.Layout.{slot, homeOf, inRange, shapeFits, slots, presenceWords}
 use Rattle.meaning.proofs.Homes.{between-in, between-above, between-low, between-high}
 use Rattle.table_spans.specs.declared.Range.{Range}
 use Rattle.table_spans.specs.Span.{rangeOf}

@@ -9,7 +9,7 @@ use types::Frame;
 use types::Shape;
 
 // INTIDs from `low` up to `high` that a bank keeps one after another, from slot `slot` and presence word `word` on.
-pub struct Range {
+struct Range {
     pub low: u32,
     pub high: u32,
     pub slot: u32,

@@ -19,12 +19,12 @@ use Rattle.meaning.specs.Registers.{kindOf, bitsOf}
 use Rattle.meaning.proofs.Digits.{by-room}
 use Rattle.meaning.proofs.Listed.{columns, visible-small}
 use Rattle.table_words.specs.declared.Word.{Word}
-use Rattle.table_words.specs.Part.{Fitting, Inside, shownAt}
+use Rattle.table_words.specs.Part.{FitsWord, DigitInside, shownAt}
 
-pub by-bits : (P : ℕ → Type 0) → P 1 → P 2 → (f : Family) → P (bitsOf f)
+by-bits : (P : ℕ → Type 0) → P 1 → P 2 → (f : Family) → P (bitsOf f)
 by-bits P one two f = subst P (sym (columns f .digit-bits)) (by-room P one two (kindOf f))
 
-module _ (w : Word) (part : List ℕ) (fit : Fitting w part) where
+module _ (w : Word) (part : List ℕ) (fit : FitsWord w part) where
   abbrev n : ℕ
   n = length part
 
@@ -33,7 +33,7 @@ module _ (w : Word) (part : List ℕ) (fit : Fitting w part) where
       by-bits (λ b. n * b ≤ 32 → n ≤ 32) (λ h. let u : n * 1 ≤ 32 = h in omega arith) (λ h. let u : n * 2 ≤ 32 = h in omega arith)
       (w .family) (fit .digits)
 
-  pub inside : (x : ℕ) → x < n → Inside w x
+  pub inside : (x : ℕ) → x < n → DigitInside w x
   inside x l =
       let m = part-small in
       let k = fit .numbers in
@@ -45,7 +45,7 @@ module _ (w : Word) (part : List ℕ) (fit : Fitting w part) where
         number = omega arith;
       }
 
-pub shift-small : (w : Word) (x : ℕ) → Inside w x → bitsOf (w .family) * x < 32
+pub shift-small : (w : Word) (x : ℕ) → DigitInside w x → bitsOf (w .family) * x < 32
 shift-small w x i =
     by-bits (λ b. b + b * x ≤ 32 → b * x < 32) (λ h. let u : 1 + 1 * x ≤ 32 = h in omega arith)
     (λ h. let u : 2 + 2 * x ≤ 32 = h in omega arith) (w .family) (i .digit)

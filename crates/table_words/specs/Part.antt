@@ -17,12 +17,12 @@ use Rattle.record_writes.specs.Touched.{touched}
 use Rattle.table_words.specs.declared.Word.{Word}
 
 -- a part that a 32-bit word has digits for, of INTIDs that are numbers of this controller
-pub record Fitting (w : Word) (part : List ℕ) : Type 0 where
+pub record FitsWord (w : Word) (part : List ℕ) : Type 0 where
   pub digits : length part * bitsOf (w .family) ≤ 32
   pub numbers : w .first ≤ 8192
 
 -- so its record x has its digit inside the word
-pub record Inside (w : Word) (x : ℕ) : Type 0 where
+pub record DigitInside (w : Word) (x : ℕ) : Type 0 where
   pub digit : bitsOf (w .family) + bitsOf (w .family) * x ≤ 32
   pub place : x < 32
   pub number : w .first + x < 8224

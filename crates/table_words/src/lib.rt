@@ -7,7 +7,7 @@ ghost use lib.ListN.{length};
 ghost use Rattle.types.specs.declared.Shape.{Shape};
 ghost use Rattle.meaning.specs.Interrupt.{Interrupt};
 ghost use Rattle.meaning.specs.Registers.{rowOf, kindOf, bitsOf};
-ghost use Rattle.table_words.specs.Part.{Fitting, Inside, Named, Numbered, shownAt, gathered, digitStored, storedAt, stored};
+ghost use Rattle.table_words.specs.Part.{FitsWord, DigitInside, Named, Numbered, shownAt, gathered, digitStored, storedAt, stored};
 use record::visible;
 use record_writes::touched;
 use register_families::row_of;
@@ -27,7 +27,7 @@ pub struct Word {
 
 // The digit that the word shows of record x, where it stands in the word.
 fn shown_at(word: Word, row: Row, x: u32, r: u8) -> u32
-    requires { ⌜ Inside word x ⌝ }
+    requires { ⌜ DigitInside word x ⌝ }
     requires { ⌜ row ≡ rowOf (word .family) ⌝ }
     ensures { λ d. ⌜ ((s : Shape) (at : ℕ → Interrupt) → Named (word .first + x) (at x)
         → d ≡ (shownAt s at word x r * 2 ^ (bitsOf (word .family) * x)) % 2 ^ 32) ⌝ }
@@ -46,7 +46,7 @@ fn shown_at(word: Word, row: Row, x: u32, r: u8) -> u32
 
 // Record x after the digit d was written for it.
 fn digit_stored(word: Word, kind: Kind, d: u32, x: u32, r: u8) -> u8
-    requires { ⌜ Inside word x ⌝ }
+    requires { ⌜ DigitInside word x ⌝ }
     ensures { λ b. ⌜ ((s : Shape) (at : ℕ → Interrupt) → Named (word .first + x) (at x) → b ≡ digitStored s at word kind d x r) ⌝ }
 {
     let side = word.side;
@@ -62,7 +62,7 @@ fn digit_stored(word: Word, kind: Kind, d: u32, x: u32, r: u8) -> u8
 
 // Record x after a write of `value` to the word.
 fn stored_at(word: Word, row: Row, value: u32, x: u32, r: u8) -> u8
-    requires { ⌜ Inside word x ⌝ }
+    requires { ⌜ DigitInside word x ⌝ }
     requires { ⌜ row ≡ rowOf (word .family) ⌝ }
     ensures { λ b. ⌜ ((s : Shape) (at : ℕ → Interrupt) → Named (word .first + x) (at x) → b ≡ storedAt s at word value x r) ⌝ }
 {
@@ -73,7 +73,7 @@ fn stored_at(word: Word, row: Row, value: u32, x: u32, r: u8) -> u8
 
 // What a read of the word shows.
 pub fn gather(part: &[u8], word: Word) -> u32
-    requires { ⌜ Fitting word (now part) ⌝ }
+    requires { ⌜ FitsWord word (now part) ⌝ }
     ensures { λ v. ⌜ ((s : Shape) (at : ℕ → Interrupt) → Numbered (length (now (part .entry))) (word .first) at
         → v ≡ gathered s at word (now (part .entry))) ⌝ }
 {
@@ -86,10 +86,10 @@ pub fn gather(part: &[u8], word: Word) -> u32
     value
 }
 
-// A set or clear write: from one written 1 to the next, by the count of trailing zeros. Where none is left that count is 32, and no part
+// A set or clear write: from one written 1 to the next, by the count of trailing zeros. Where none remains that count is 32, and no part
 // has more records; a 1 past the part's end, and all above it, act on nothing.
 fn jump(part: &mut [u8], word: Word, on: bool, switch: Switch, value: u32)
-    requires { ⌜ Fitting word (now part) ⌝ }
+    requires { ⌜ FitsWord word (now part) ⌝ }
     requires { ⌜ kindOf (word .family) ≡ Kind.Switched on switch ⌝ }
     ensures { λ _. ⌜ ((s : Shape) (at : ℕ → Interrupt) → Numbered (length (now (part .entry))) (word .first) at
         → now (part .exit) ≡ stored s at word value (now (part .entry))) ⌝ }
@@ -106,7 +106,7 @@ fn jump(part: &mut [u8], word: Word, on: bool, switch: Switch, value: u32)
 
 // A write where a 0 acts too: every record.
 fn walk(part: &mut [u8], word: Word, row: Row, value: u32)
-    requires { ⌜ Fitting word (now part) ⌝ }
+    requires { ⌜ FitsWord word (now part) ⌝ }
     requires { ⌜ row ≡ rowOf (word .family) ⌝ }
     ensures { λ _. ⌜ ((s : Shape) (at : ℕ → Interrupt) → Numbered (length (now (part .entry))) (word .first) at
         → now (part .exit) ≡ stored s at word value (now (part .entry))) ⌝ }
@@ -118,7 +118,7 @@ fn walk(part: &mut [u8], word: Word, row: Row, value: u32)
 
 // What a write of `value` to the word leaves.
 pub fn store(part: &mut [u8], word: Word, value: u32)
-    requires { ⌜ Fitting word (now part) ⌝ }
+    requires { ⌜ FitsWord word (now part) ⌝ }
     ensures { λ _. ⌜ ((s : Shape) (at : ℕ → Interrupt) → Numbered (length (now (part .entry))) (word .first) at
         → now (part .exit) ≡ stored s at word value (now (part .entry))) ⌝ }
 {

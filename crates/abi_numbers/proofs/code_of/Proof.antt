@@ -1,3 +1,4 @@
+-- `code_of` is `codeOf`: status and value are each below 2^32, so neither the product nor the sum leaves 64 bits. One way out.
 use Rattle.abi_numbers.specs.Code.{codeOf}
 use borrow.Author.Needs.{needs}
 use Rattle.abi_numbers.proofs.code_of.Statement.{statement}

@@ -1,3 +1,4 @@
+-- `frame_of` is `frameOf`. Two ways out: the number of the Distributor (returns), and any other (returns-2).
 use borrow.Author.Tests.{eq-eqb, ne-eqb}
 use Rattle.abi_numbers.specs.Numbers.{frameOf}
 use Rattle.abi_numbers.proofs.frame_of.Statement.{statement}

@@ -1,3 +1,5 @@
+-- `gate` is `shut`. Three ways out: a number that names nothing (returns), an mbis that is neither 0 nor 1 (returns-2), and the gate open
+-- (returns-3).
 use borrow.Author.Needs.{needs}
 use borrow.Author.Tests.{not-true, not-false}
 use Rattle.abi_numbers.specs.Code.{shut, codeOf}
@@ -13,11 +15,23 @@ zero-or-one-requires c κs = search needs
 
 returns-2 : tie.Need-returns-2
 unfolding shut codeOf
-returns-2 c = rw (not-false (c .before .before .before .args .named) (c .before .before .if1 .left), ← (c .before .zero-or-one .ensures), not-true (c .before .zero-or-one .result) (c .if2 .taken))
+returns-2 c =
+    let tested = c .before in
+    rw (
+      not-false (tested .before .before .args .named) (tested .before .if1 .left),
+      ← (tested .zero-or-one .ensures),
+      not-true (tested .zero-or-one .result) (c .if2 .taken),
+    )
 
 returns-3 : tie.Need-returns-3
 unfolding shut
-returns-3 c = rw (not-false (c .before .before .before .args .named) (c .before .before .if1 .left), ← (c .before .zero-or-one .ensures), not-false (c .before .zero-or-one .result) (c .if2 .left))
+returns-3 c =
+    let tested = c .before in
+    rw (
+      not-false (tested .before .before .args .named) (tested .before .if1 .left),
+      ← (tested .zero-or-one .ensures),
+      not-false (tested .zero-or-one .result) (c .if2 .left),
+    )
 
 pub gate-spec : {M : Type 1} → statement M
 gate-spec = tie.close (tie.spec returns zero-or-one-requires returns-2 returns-3)

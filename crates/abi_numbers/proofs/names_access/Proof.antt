@@ -1,3 +1,4 @@
+-- `names_access`: the three tests are the three of its contract. One way out.
 use borrow.Author.Needs.{needs}
 use Rattle.abi_numbers.proofs.names_access.Statement.{statement}
 use Rattle.abi_numbers.proofs.names_access.Tie as tie

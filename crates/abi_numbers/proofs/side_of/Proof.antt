@@ -1,3 +1,4 @@
+-- `side_of` is `sideOf`. Two ways out: the number of the Secure side (returns), and any other (returns-2).
 use borrow.Author.Tests.{eq-eqb, ne-eqb}
 use Rattle.abi_numbers.specs.Numbers.{sideOf}
 use Rattle.abi_numbers.proofs.side_of.Statement.{statement}

@@ -1,3 +1,4 @@
+-- `way_of` is `wayOf`. Two ways out: the number of a write (returns), and any other (returns-2).
 use borrow.Author.Tests.{eq-eqb, ne-eqb}
 use Rattle.abi_numbers.specs.Numbers.{wayOf}
 use Rattle.abi_numbers.proofs.way_of.Statement.{statement}

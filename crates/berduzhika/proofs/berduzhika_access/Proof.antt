@@ -1,7 +1,7 @@
--- `berduzhika_access` is `accessTold`: what the gate says (returns), and behind it the controller's answer as one number (returns-2).
+-- `berduzhika_access` is `accessReturns`: what the gate says (returns), and behind it the controller's answer as one number (returns-2).
 use mathlib.Core.Path.{ap}
 use Rattle.meaning.specs.Rule as step
-use Rattle.berduzhika.proofs.Judged.{kept, passed}
+use Rattle.berduzhika.proofs.Gate.{kept, passed}
 use borrow.Author.Needs.{needs}
 use Rattle.berduzhika.proofs.berduzhika_access.Statement.{statement}
 use Rattle.berduzhika.proofs.berduzhika_access.Tie as tie

@@ -1,10 +1,10 @@
--- `berduzhika_deactivate` is `deactivateTold`: what the gate says (returns), and behind it the controller's answer
+-- `berduzhika_deactivate` is `deactivateReturns`: what the gate says (returns), and behind it the controller's answer
 -- as one number (returns-2).
 use mathlib.Core.Path.{ap}
 use Rattle.types.specs.declared.Side.{Side}
 use Rattle.types.specs.declared.Event.the-variants.{Deactivate}
 use Rattle.meaning.specs.Rule as step
-use Rattle.berduzhika.proofs.Judged.{kept, passed}
+use Rattle.berduzhika.proofs.Gate.{kept, passed}
 use borrow.Author.Needs.{needs}
 use Rattle.berduzhika.proofs.berduzhika_deactivate.Statement.{statement}
 use Rattle.berduzhika.proofs.berduzhika_deactivate.Tie as tie

@@ -1,6 +1,6 @@
--- `berduzhika_reset` is `resetTold`: what the gate says (returns), and behind it the controller's answer as one number (returns-2).
+-- `berduzhika_reset` is `resetReturns`: what the gate says (returns), and behind it the controller's answer as one number (returns-2).
 use mathlib.Core.Path.{refl}
-use Rattle.berduzhika.proofs.Judged.{kept, passed}
+use Rattle.berduzhika.proofs.Gate.{kept, passed}
 use borrow.Author.Needs.{needs}
 use Rattle.berduzhika.proofs.berduzhika_reset.Statement.{statement}
 use Rattle.berduzhika.proofs.berduzhika_reset.Tie as tie

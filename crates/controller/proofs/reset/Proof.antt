@@ -18,12 +18,16 @@ abbrev entry : tie.After-well-formed → tie.Start
 entry c = c .before .before .before .before .before
 
 -- once the Distributor is cleared
-abbrev judged : tie.After-clear → tie.After-well-formed
-judged c = c .before .before .before
+abbrev tested : tie.After-clear → tie.After-well-formed
+tested c = c .before .before .before
 
-well : (c : tie.After-clear) → wellFormed (entry (judged c) .args .shape) (T (entry (judged c))) ≡ true
+-- once the Redistributor is cleared too
+abbrev first-cleared : tie.After-clear2 → tie.After-clear
+first-cleared c = c .before .before .before .before
+
+well : (c : tie.After-clear) → wellFormed (entry (tested c) .args .shape) (T (entry (tested c))) ≡ true
 well c =
-    let w = judged c in
+    let w = tested c in
     sym (w .well-formed .ensures (T (entry w)) refl refl refl refl) ∙ not-false (w .well-formed .result) (c .before .before .if1 .left)
 
 well-formed-requires : tie.Need-well-formed-requires
@@ -50,9 +54,10 @@ same-length-2 c = search needs
 
 returns-2 : tie.Need-returns-2
 returns-2 c =
-    let k = c .before .before .before .before .before .before in
-    let e = entry (judged k) in
-    all-cleared (e .args .shape) (T e) (well k) _ _ (k .clear .ensures) (c .before .before .clear2 .ensures)
+    let both = c .before .before in
+    let k = first-cleared both in
+    let e = entry (tested k) in
+    all-cleared (e .args .shape) (T e) (well k) _ _ (k .clear .ensures) (both .clear2 .ensures)
 
 pub reset-spec : {M : Type 1} → statement M
 reset-spec =

@@ -1,4 +1,4 @@
--- `messages::deliver` is `delivered`. Two ways out: the gate open (returns), and shut, where the record is left (returns-2).
+-- `deliver` is `delivered`. Two ways out: the gate open (returns), and shut, where the record is unchanged (returns-2).
 use Rattle.meaning.specs.Cell.{decode}
 use Rattle.meaning.proofs.Bytes.{encode-decode}
 use Rattle.record_messages.specs.Delivered.{delivered}

@@ -1,4 +1,4 @@
--- `messages::sent` is `sent`. Three ways out: a pending interrupt that is left (returns), the latch of an edge interrupt (returns-2), the
+-- `sent` is `sent`. Three ways out: a pending interrupt that is unchanged (returns), the latch of an edge interrupt (returns-2), the
 -- message level of another (returns-3).
 use Rattle.meaning.specs.Rule.{sent}
 use Rattle.meaning.proofs.Bytes.{encode-decode}

@@ -1,4 +1,4 @@
--- `writes::configured` is `configured`. Two ways out: the field is left (returns), and the trigger changes (returns-2).
+-- `configured` is `configured`. Two ways out: the field is unchanged (returns), and the trigger changes (returns-2).
 use Rattle.meaning.specs.Cell.{get}
 use Rattle.meaning.specs.Rule.{configured, fixedField}
 use Rattle.meaning.proofs.Bytes.{encode-decode}

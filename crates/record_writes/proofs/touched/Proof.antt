@@ -1,4 +1,4 @@
--- `writes::touched` is `touched`. Two ways out: the gate open (returns), and shut, where the record is left (returns-2).
+-- `touched` is `touched`. Two ways out: the gate open (returns), and shut, where the record is unchanged (returns-2).
 use Rattle.types.specs.declared.Way.the-variants.{Write}
 use Rattle.meaning.specs.Cell.{decode}
 use Rattle.meaning.specs.Rule.{reaches}

@@ -1,3 +1,4 @@
+-- `shape_fits` is `shapeFits`. One way out.
 use borrow.Author.Needs.{needs}
 use Rattle.meaning.specs.Layout.{shapeFits}
 use Rattle.table_limits.proofs.shape_fits.Statement.{statement}

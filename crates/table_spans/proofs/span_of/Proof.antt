@@ -1,10 +1,9 @@
 -- `span_of` is `spanOf`. Two ways out: INTIDs of the bank's range (returns), and none (returns-2).
-use mathlib.Core.Path.{_≡_, refl, sym, ap, _∙_}
-use mathlib.Core.Bool.{Bool, true, false, cond, _&&_}
-use Prim.Native.Nat.{ℕ, _-_, _≤_}
+use mathlib.Core.Path.{sym, ap, _∙_}
+use mathlib.Core.Bool.{Bool, cond}
+use Prim.Native.Nat.{_-_}
 use denote.Ref.{now}
 use borrow.Author.Needs.{needs}
-use Rattle.meaning.specs.Interrupt.{between}
 use Rattle.meaning.proofs.Homes.{between-low}
 use Rattle.table_spans.specs.declared.Range.{Range}
 use Rattle.table_spans.specs.Span.{nothing, spanAt, spanIn, spanOf}

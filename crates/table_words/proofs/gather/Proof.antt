@@ -1,4 +1,4 @@
--- `words::gather` is `gathered`: the value is the row of the digits so far. The measure is how many records are left. One way out, at the
+-- `gather` is `gathered`: the value is the row of the digits so far. The measure is how many records remain. One way out, at the
 -- part's end.
 use borrow.Author.Needs.{needs}
 use denote.Ref.{now}
@@ -13,7 +13,7 @@ use Rattle.types.specs.declared.Shape.{Shape}
 use Rattle.meaning.specs.Interrupt.{Interrupt}
 use Rattle.meaning.specs.Registers.{bitsOf}
 use Rattle.table_words.specs.declared.Word.{Word}
-use Rattle.table_words.specs.Part.{Inside, Numbered, shownAt, gathered}
+use Rattle.table_words.specs.Part.{DigitInside, Numbered, shownAt, gathered}
 use Rattle.table_words.proofs.Digits.{inside, shown-small}
 use Rattle.table_words.proofs.gather.Statement.{statement}
 use Rattle.table_words.proofs.gather.Tie as tie
@@ -36,7 +36,7 @@ abbrev μ-loop : tie.MeasureT-loop
 abbrev entry : tie.At-loop Inv-loop μ-loop → tie.Start Inv-loop μ-loop
 entry l = l .before .before .before
 
-here : (c : tie.In-loop Inv-loop μ-loop) → Inside (entry (c .before) .args .word) (c .before .loop .x)
+here : (c : tie.In-loop Inv-loop μ-loop) → DigitInside (entry (c .before) .args .word) (c .before .loop .x)
 here c = let e = entry (c .before) in inside (e .args .word) (now (e .args .part)) (e .pre) (c .before .loop .x) (c .loop-test .taken)
 
 loop-holds : tie.Need-loop-holds Inv-loop μ-loop

@@ -1,5 +1,5 @@
--- `words::jump` leaves `stored`: each turn visits the record of the lowest 1 that is left, and every record whose bit is 0 is as `stored`
--- has it from the start. The measure is what is left of the value. One way out, where no 1 is left below the part's end: because none is
+-- `jump` leaves `stored`: each turn visits the record of the lowest 1 that remains, and every record whose bit is 0 is as `stored`
+-- has it from the start. The measure is what remains of the value. One way out, where no 1 remains below the part's end: because none is
 -- left at all, or because the next lies past the end.
 use borrow.Author.Needs.{needs}
 use denote.Ref.{now}
@@ -16,13 +16,13 @@ use Rattle.lists.proofs.Jumps.{Jumped, jumped-none, jumped-more, jumped-all}
 use Rattle.types.specs.declared.Shape.{Shape}
 use Rattle.meaning.specs.Interrupt.{Interrupt}
 use Rattle.table_words.specs.declared.Word.{Word}
-use Rattle.table_words.specs.Part.{Inside, Numbered, storedAt, stored}
+use Rattle.table_words.specs.Part.{DigitInside, Numbered, storedAt, stored}
 use Rattle.table_words.proofs.Digits.{part-small, inside}
 use Rattle.table_words.proofs.Ones.{quiet-at, one-at}
 use Rattle.table_words.proofs.jump.Statement.{statement}
 use Rattle.table_words.proofs.jump.Tie as tie
 
--- x is the place of the lowest 1 of what is left, and 32 where nothing is left
+-- x is the place of the lowest 1 of what remains, and 32 where nothing does
 record Jumping (old : List ℕ) (word : Word) (value : ℕ) (new : List ℕ) (rest x : ℕ) : Type 0 where
   next : x ≡ trailingZeros 32 rest
   same : length new ≡ length old
@@ -46,7 +46,7 @@ module _ (c : tie.In-loop Inv-loop μ-loop) where
   below : l .loop .x < length (now (entry l .args .part))
   below = let s = l .loop .inv .same in let t = c .loop-test .taken in omega arith
 
-  here : Inside (entry l .args .word) (l .loop .x)
+  here : DigitInside (entry l .args .word) (l .loop .x)
   here = inside (entry l .args .word) (now (entry l .args .part)) (entry l .pre .0) (l .loop .x) below
 
   one : bitAt (l .loop .rest) (l .loop .x) ≡ true

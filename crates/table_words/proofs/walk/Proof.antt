@@ -1,4 +1,4 @@
--- `words::walk` leaves `stored`, record by record. The measure is how many are left. One way out, at the part's end.
+-- `walk` leaves `stored`, record by record. The measure is how many remain. One way out, at the part's end.
 use borrow.Author.Needs.{needs}
 use denote.Ref.{now}
 use mathlib.Core.Path.{_≡_, refl, _∙_}
@@ -10,7 +10,7 @@ use Rattle.lists.proofs.Loops.{Mapped, mapped-none, mapped-more, mapped-all}
 use Rattle.types.specs.declared.Shape.{Shape}
 use Rattle.meaning.specs.Interrupt.{Interrupt}
 use Rattle.table_words.specs.declared.Word.{Word}
-use Rattle.table_words.specs.Part.{Inside, Numbered, storedAt, stored}
+use Rattle.table_words.specs.Part.{DigitInside, Numbered, storedAt, stored}
 use Rattle.table_words.proofs.Digits.{inside}
 use Rattle.table_words.proofs.walk.Statement.{statement}
 use Rattle.table_words.proofs.walk.Tie as tie
@@ -31,7 +31,7 @@ abbrev μ-loop : tie.MeasureT-loop
 abbrev entry : tie.At-loop Inv-loop μ-loop → tie.Start Inv-loop μ-loop
 entry l = l .before .before
 
-here : (c : tie.In-loop Inv-loop μ-loop) → Inside (entry (c .before) .args .word) (c .before .loop .x)
+here : (c : tie.In-loop Inv-loop μ-loop) → DigitInside (entry (c .before) .args .word) (c .before .loop .x)
 here c = let e = entry (c .before) in inside (e .args .word) (now (e .args .part)) (e .pre .0) (c .before .loop .x) (c .loop-test .taken)
 
 loop-holds : tie.Need-loop-holds Inv-loop μ-loop

@@ -1,5 +1,4 @@
 -- `read` is what its target shows. Three ways out: a register word (returns), TYPER (returns-2), a message register (returns-3).
-use Prim.Native.Nat.{ℕ}
 use denote.Ref.{now}
 use Rattle.engine.proofs.Rooms.{digits-bank, read-digits, read-typer, read-message}
 use mathlib.Core.Path.{_∙_}
@@ -13,6 +12,10 @@ enum-known-target c = search needs
 -- in the arm of a register word
 abbrev entry : tie.After-known-told → tie.Start
 entry c = c .before .before .before .before .before .before
+
+-- in the arm of TYPER
+abbrev typer-entry : tie.After-typer-of → tie.Start
+typer-entry c = c .before .before .before .before .before .before
 
 read-word-requires : tie.Need-read-word-requires
 read-word-requires c κs =
@@ -38,7 +41,7 @@ returns c at n =
 
 returns-2 : tie.Need-returns-2
 returns-2 c at n =
-    let a = c .before .before .before .before .before .before .args in
+    let a = typer-entry c .args in
     c .typer-of .ensures
     ∙ read-typer (a .shape) (a .side) (a .target) (now (a .presence)) (now (a .dist)) (now (a .redist)) at (c .before .enum-told .given .1)
 

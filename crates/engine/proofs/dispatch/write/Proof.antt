@@ -1,6 +1,5 @@
 -- `write` leaves both tables as the target asks. Four ways out: a register word of the Distributor (returns) and of the Redistributor
 -- (returns-2), TYPER (returns-3), a message register (returns-4).
-use Prim.Native.Nat.{ℕ}
 use denote.Ref.{now}
 use Rattle.engine.proofs.Rooms.{dist-bank, redist-bank, message-bank, wrote-dist, wrote-redist, wrote-nothing, wrote-message}
 use borrow.Author.Needs.{needs}

@@ -1,6 +1,5 @@
 -- `happen_at` answers and stores as the rule does at one record. Two ways out: refused (returns), done (returns-2).
 use mathlib.Core.Path.{sym, ap, _∙_}
-use mathlib.Core.Bool.{Bool}
 use denote.Ref.{now}
 use lib.ListN.{getD}
 use Rattle.meaning.specs.Cell.{Cell, decode}

@@ -1,7 +1,7 @@
 -- `send` delivers at the slot of the INTID that the value names. Three ways out: no messages (returns), a slot (returns-2), no slot
 -- (returns-3).
 use mathlib.Core.Path.{ap, _∙_}
-use Prim.Native.Nat.{ℕ, _%_}
+use Prim.Native.Nat.{_%_}
 use denote.Ref.{now}
 use native.Mathlib.Omega.{arith}
 use lib.ListN.{set}

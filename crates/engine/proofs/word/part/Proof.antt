@@ -1,3 +1,5 @@
+-- `part` lends the records of a span: the slice lies inside the bank's records in either frame. Two ways out: the Distributor's (returns)
+-- and the Redistributor's (returns-2).
 use borrow.Author.Needs.{needs}
 use Rattle.engine.proofs.word.part.Statement.{statement}
 use Rattle.engine.proofs.word.part.Tie as tie

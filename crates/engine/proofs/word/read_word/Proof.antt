@@ -1,12 +1,12 @@
 -- `read_word` gathers the part of its bank that the window's span has.
-use mathlib.Core.Path.{_≡_, sym, ap, subst, _∙_}
+use mathlib.Core.Path.{sym, ap, subst, _∙_}
 use mathlib.Core.List.{List, []}
 use Prim.Native.Nat.{ℕ}
 use denote.Ref.{now}
 use lib.ListN.{length}
 use Rattle.types.specs.declared.Window.{Window}
 use Rattle.meaning.specs.Layout.{lent, recordsOf}
-use Rattle.table_words.specs.Part.{Fitting, Numbered, gathered}
+use Rattle.table_words.specs.Part.{FitsWord, Numbered, gathered}
 use Rattle.table_spans.specs.declared.Span.{Span}
 use Rattle.table_spans.proofs.Spanned.{Bounded}
 use Rattle.engine.specs.Bank.{part, wordOf, readIn}
@@ -45,7 +45,7 @@ part-requires c κs =
 gather-requires : tie.Need-gather-requires
 gather-requires c κs =
     let s = c .before in
-    subst (Fitting (wordOf (entry s .args .side) (W s) (P s))) (sym (c .part .ensures))
+    subst (FitsWord (wordOf (entry s .args .side) (W s) (P s))) (sym (c .part .ensures))
     (fitting (W s) (entry s .pre .1) (entry s .args .side) (P s) (X s) (bounds s .short))
 
 returns : tie.Need-returns

@@ -1,5 +1,5 @@
 -- `write_word` lends the part of its bank that the window's span has to the loop, and has the rest back as it was.
-use mathlib.Core.Path.{_≡_, ap, _∙_}
+use mathlib.Core.Path.{ap, _∙_}
 use mathlib.Core.List.{List, _++_}
 use Prim.Native.Nat.{ℕ, _-_}
 use denote.Ref.{now}
