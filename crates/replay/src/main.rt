@@ -1,21 +1,22 @@
-// The bench replay as a program: standard input to standard output, in constant memory. What it writes comes of the crates stream and
-// ended, and is proved. This reads and writes: no contract can say what a system call moved.
+// The bench replay as a program: standard input to standard output, in constant memory. What it writes comes from `feed` of
+// replay_stream and `finish` of replay_state, and is proved there. This crate reads and writes: no contract can say what a system
+// call moved.
 // A failed read or write ends it at once, with a word on standard error and without bad= or end=, so that an output that was cut
 // short is not taken for a whole one.
 ghost use Prim.Native.Nat.{_≤_};
 ghost use lib.ListN.{length};
-use ended::Ended;
-use ended::finish;
 use libc::STDERR_FILENO;
 use libc::STDIN_FILENO;
 use libc::STDOUT_FILENO;
+use replay_state::Ended;
 use replay_state::State;
+use replay_state::finish;
 use replay_state::start;
 use replay_stream::piece::feed;
 use replay_tables::dist_records;
 use replay_tables::redist_records;
 
-// What a turn leaves: the state, whether there may be more to read, and whether a read or a write failed.
+// What a turn gives: the state after it, whether there may be more to read, and whether a read or a write failed.
 struct After {
     state: State,
     more: bool,
@@ -39,7 +40,7 @@ fn take(
         let fed = feed(dist, redist, line, out, state, &piece[from..]);
         state = fed.state;
         from += fed.used;
-        let end = fed.end;
+        let end = state.end;
         if !io::write_all(STDOUT_FILENO, &out[..end]) {
             return After {
                 state,

@@ -1,10 +1,2 @@
-// The lines of a bench replay, one at a time.
+// What one line of a replay does: its value is kept for the step, or it completes the step and the controller answers, or it is bad.
 pub mod line;
-
-use replay_meaning::Progress;
-
-// How far a line has brought it, and the end of what is written.
-pub struct Told {
-    pub at: Progress,
-    pub end: usize,
-}

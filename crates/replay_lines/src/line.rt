@@ -4,16 +4,15 @@ ghost use Prim.Native.Nat.{_+_, _≤_, _<_};
 ghost use lib.ListN.{length};
 ghost use Rattle.meaning.specs.Rule.{access as by-access};
 ghost use Rattle.meaning.specs.Step.{stepped};
-ghost use Rattle.text.specs.Sheet.{Put};
-ghost use Rattle.replay_meaning.specs.Run.{shapeOf, requestOf, badText, stopped, counted, completed, keeping, goodLine, lineRead};
+ghost use Rattle.replay_meaning.specs.Run.{shapeOf, requestOf, stopped, counted, completed, keeping, goodLine, lineRead};
 ghost use Rattle.replay_meaning.specs.Replay.{allPresent};
-ghost use Rattle.replay_lines.specs.Reached.{runOf, Reached};
-use crate::Told;
+ghost use Rattle.replay_lines.specs.Reached.{runOf, Reached, BadWritten};
 use controller::access;
 use replay_keys::field;
 use replay_keys::next;
 use replay_keys::rank;
 use replay_meaning::Progress;
+use replay_state::State;
 use replay_steps::answer::put_bad;
 use replay_steps::answer::put_step;
 use replay_steps::request::request_of;
@@ -58,19 +57,23 @@ fn count(p: Progress) -> Progress
 }
 
 // A whole step: the controller's answer is written.
-fn complete(dist: &mut [u8], redist: &mut [u8], out: &mut [u8], end: usize, p: Progress) -> Told
+fn complete(dist: &mut [u8], redist: &mut [u8], out: &mut [u8], end: usize, p: Progress) -> State
     requires { ⌜ end + 128 ≤ length (now out) ⌝ }
     requires { ⌜ p .steps < 1000000 ⌝ }
-    ensures { λ t. ⌜
+    ensures { λ s. ⌜
         Reached (completed (runOf p (allPresent (now (dist .entry)) (now (redist .entry))) (now (out .entry)) end))
-        (t .at) (allPresent (now (dist .exit)) (now (redist .exit))) (now (out .entry)) end (now (out .exit)) (t .end)
+        s (allPresent (now (dist .exit)) (now (redist .exit))) (now (out .entry)) end (now (out .exit))
         ⌝ }
 {
     let values = p.values;
     let answer = act(dist, redist, values);
     let at = count(p);
     let last = put_step(out, end, at.steps, answer);
-    Told { at, end: last }
+    State {
+        at,
+        len: 0,
+        end: last,
+    }
 }
 
 // The line's value is kept under its key, and the next key's turn comes.
@@ -89,12 +92,20 @@ fn keep(p: Progress, v: u32) -> Progress
     }
 }
 
-fn good(dist: &mut [u8], redist: &mut [u8], out: &mut [u8], end: usize, p: Progress, v: u32) -> Told
+// A good line: its value is kept, and a step's last line completes the step.
+fn good(
+    dist: &mut [u8],
+    redist: &mut [u8],
+    out: &mut [u8],
+    end: usize,
+    p: Progress,
+    v: u32,
+) -> State
     requires { ⌜ end + 128 ≤ length (now out) ⌝ }
     requires { ⌜ p .steps < 1000000 ⌝ }
-    ensures { λ t. ⌜
+    ensures { λ s. ⌜
         Reached (goodLine (runOf p (allPresent (now (dist .entry)) (now (redist .entry))) (now (out .entry)) end) v)
-        (t .at) (allPresent (now (dist .exit)) (now (redist .exit))) (now (out .entry)) end (now (out .exit)) (t .end)
+        s (allPresent (now (dist .exit)) (now (redist .exit))) (now (out .entry)) end (now (out .exit))
         ⌝ }
 {
     let key = p.key;
@@ -102,9 +113,10 @@ fn good(dist: &mut [u8], redist: &mut [u8], out: &mut [u8], end: usize, p: Progr
     if rank(key) == 9 {
         return complete(dist, redist, out, end, at);
     }
-    Told { at, end }
+    State { at, len: 0, end }
 }
 
+// The replay is over: no line after this one is read.
 fn stop(p: Progress) -> Progress
     ensures { λ r. ⌜ r ≡ stopped p ⌝ }
 {
@@ -118,13 +130,15 @@ fn stop(p: Progress) -> Progress
     }
 }
 
-fn bad(out: &mut [u8], end: usize, p: Progress) -> Told
+// A bad line: its number is written, and the replay is over.
+fn bad(out: &mut [u8], end: usize, p: Progress) -> State
     requires { ⌜ end + 128 ≤ length (now out) ⌝ }
-    ensures { λ t. ⌜ ((t .at ≡ stopped p) × Put (now (out .entry)) end (badText p) (now (out .exit)) (t .end)) ⌝ }
+    ensures { λ s. ⌜ BadWritten p s (now (out .entry)) end (now (out .exit)) ⌝ }
 {
     let last = put_bad(out, end, p);
-    Told {
+    State {
         at: stop(p),
+        len: 0,
         end: last,
     }
 }
@@ -137,15 +151,15 @@ pub fn line_read(
     end: usize,
     p: Progress,
     line: &[u8],
-) -> Told
+) -> State
     requires { ⌜ end + 128 ≤ length (now out) ⌝ }
-    ensures { λ t. ⌜
+    ensures { λ s. ⌜
         Reached (lineRead (runOf p (allPresent (now (dist .entry)) (now (redist .entry))) (now (out .entry)) end) (now (line .entry)))
-        (t .at) (allPresent (now (dist .exit)) (now (redist .exit))) (now (out .entry)) end (now (out .exit)) (t .end)
+        s (allPresent (now (dist .exit)) (now (redist .exit))) (now (out .entry)) end (now (out .exit))
         ⌝ }
 {
     if p.over {
-        return Told { at: p, end };
+        return State { at: p, len: 0, end };
     }
     if 1000000 <= p.steps {
         return bad(out, end, p);

@@ -13,7 +13,7 @@ use Rattle.meaning.proofs.Choices.{cond-true, cond-false}
 use Rattle.replay_meaning.specs.Stream.{pushed}
 use Rattle.replay_state.specs.Held.{Held, heldIn, stored, byteHeld, bytesHeld}
 
--- a buffer without room is left
+-- a buffer without room is unchanged
 pub stored-none : (line : List ℕ) (len b : ℕ) → length line ≤ len → heldIn line len ≡ stored (heldIn line len) b
 unfolding stored
 stored-none line len b h = sym (cond-true _ _ _ (le-leb (length line) len h))

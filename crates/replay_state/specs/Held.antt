@@ -9,7 +9,7 @@ use Rattle.replay_state.specs.declared.State.{State}
 
 -- before the first byte
 unfoldable pub startState : State
-startState = record { at = startProgress; len = 0 }
+startState = record { at = startProgress; len = 0; end = 0 }
 
 -- The line that is not whole yet: the first `len` bytes of the buffer lent for it.
 pub record Held : Type 0 where

@@ -1,2 +1,3 @@
-pub mod Living
+pub mod ReachedLive
 pub mod Unique
+pub mod Whole

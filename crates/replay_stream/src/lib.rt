@@ -1,17 +1,11 @@
-// A bench replay whose input comes in pieces of any size.
+// A replay whose input comes in pieces of any size.
 pub mod piece;
 
 use replay_state::State;
 
-// How far a byte has brought it.
-pub struct Passed {
-    pub state: State,
-    pub end: usize,
-}
-
-// How far a piece has brought it: `used` of its bytes are taken, and the output's first `end` bytes are written.
+// What a piece has brought: the state after it, and how many of its bytes were taken. Where the output has no more room, the others
+// have to be given again once the output is handed on.
 pub struct Fed {
     pub state: State,
     pub used: usize,
-    pub end: usize,
 }

@@ -7,7 +7,7 @@ use Prim.Native.Nat.{ℕ, _+_, _-_, _≤_, _<_}
 use native.Mathlib.Omega.{arith}
 use lib.ListN.{length, take, drop, length-take, length-drop}
 use denote.Ref.{now}
-use Rattle.replay_stream.proofs.Living.{taken-goes}
+use Rattle.replay_stream.proofs.ReachedLive.{taken-goes}
 use Rattle.replay.proofs.take.Statement.{statement}
 use Rattle.replay.proofs.take.Tie as tie
 
@@ -56,7 +56,7 @@ slice-reshare-prefix-write-all : tie.Need-slice-reshare-prefix-write-all Inv-loo
 slice-reshare-prefix-write-all c = fed c .feed .ensures .taken .fits
 
 slice-aggregate-write-all : tie.Need-slice-aggregate-write-all Inv-loop μ-loop
-slice-aggregate-write-all c = let h = fed (c .before) .feed .ensures .taken .fits in simp length-take (omega arith)
+slice-aggregate-write-all c = let fits = slice-reshare-prefix-write-all (c .before) in simp length-take (omega arith)
 
 loop-less : tie.Need-loop-less Inv-loop μ-loop
 loop-less c =

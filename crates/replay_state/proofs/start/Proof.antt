@@ -1,3 +1,4 @@
+-- `start` is `startState`: no line read, no step answered, no byte kept. One way out.
 use mathlib.Core.Path.{refl}
 use Rattle.replay_meaning.specs.Replay.{startProgress}
 use Rattle.replay_state.specs.Held.{startState}

@@ -1,4 +1,5 @@
 -- `act` is a step of the machine on tables where all interrupts are present: the arrays that it makes are `allPresent`'s words.
+-- One way out.
 use Rattle.replay_meaning.specs.Replay.{allPresent}
 use borrow.Author.Needs.{needs}
 use Rattle.replay_lines.proofs.line.act.Statement.{statement}

@@ -1,4 +1,5 @@
--- `complete` reaches `completed`: the controller has acted, the step is counted, and its lines are put.
+-- `complete` reaches `completed`: the controller has acted, the step is counted, and its lines are put. One way out.
+use mathlib.Core.Path.{refl}
 use native.Mathlib.Omega.{arith}
 use Rattle.replay_lines.proofs.Reaching.{reached-step}
 use borrow.Author.Needs.{needs}
@@ -20,7 +21,7 @@ returns c =
     let put = c .before .before in
     let n = counting put in
     let room = entry (acting n) .pre .0 in
-    reached-step _ _ _ _ (omega arith) _ _ _ (n .count .ensures) (acting n .act .ensures) (put .put-step .ensures)
+    reached-step _ _ _ _ (omega arith) _ _ _ refl (n .count .ensures) (acting n .act .ensures) (put .put-step .ensures)
 
 pub complete-spec : {M : Type 1} → statement M
 complete-spec =

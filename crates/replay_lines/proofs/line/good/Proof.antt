@@ -1,5 +1,5 @@
 -- `good` reaches `goodLine`. Two ways out: the line was a step's last (returns), or another (returns-2).
-use mathlib.Core.Path.{_∙_, ap, sym}
+use mathlib.Core.Path.{_∙_, refl, ap, sym}
 use native.Mathlib.Omega.{arith}
 use Rattle.replay_meaning.specs.declared.Progress.{Progress}
 use Rattle.replay_meaning.specs.Run.{keeping}
@@ -18,6 +18,9 @@ kept c = c .before .before
 abbrev last : tie.After-complete → tie.Then1
 last c = c .before .before .before .before
 
+abbrev answered : tie.After-slice-known6 → tie.After-complete
+answered c = c .before .before .before .before .before .before
+
 complete-requires : tie.Need-complete-requires
 unfolding keeping
 complete-requires c κs =
@@ -26,7 +29,7 @@ complete-requires c κs =
 
 returns : tie.Need-returns
 returns c =
-    let done = c .before .before .before .before .before .before in
+    let done = answered c in
     let k = kept (last done) in
     let room = entry k .pre .0 in
     reached-last _ _ _ _ (omega arith) _ _ _ _ (k .keep .ensures) (sym (last done .before .rank .ensures) ∙ last done .if1 .taken)
@@ -36,7 +39,7 @@ returns-2 : tie.Need-returns-2
 returns-2 c =
     let k = c .before .before in
     let room = entry k .pre .0 in
-    reached-more _ _ _ _ (omega arith) _ _ (k .keep .ensures) (λ e. c .if1 .left (c .before .rank .ensures ∙ e))
+    reached-more _ _ _ _ _ refl (omega arith) (k .keep .ensures) (λ e. c .if1 .left (c .before .rank .ensures ∙ e))
 
 pub good-spec : {M : Type 1} → statement M
 good-spec =

@@ -1,6 +1,6 @@
 -- `line_read` reaches `lineRead`. Four ways out: the replay is over (returns), a million steps are answered (returns-2), the line
 -- is good (returns-3), or it is bad (returns-4).
-use mathlib.Core.Path.{_∙_, sym}
+use mathlib.Core.Path.{_∙_, refl, sym}
 use Prim.Native.Nat.{_≤_}
 use native.Mathlib.Omega.{arith}
 use lib.ListN.{length}
@@ -22,7 +22,7 @@ abbrev entry : tie.Else1 → tie.Start
 entry c = c .before .before .before .before .before
 
 returns : tie.Need-returns
-returns c = line-is-over _ _ _ _ _ _ _ (c .if1 .taken) (reached-none _ _ _ _ (inside (c .before .before .before .before .before)))
+returns c = line-is-over _ _ _ _ _ _ _ (c .if1 .taken) (reached-none _ _ _ refl (inside (c .before .before .before .before .before)))
 
 returns-2 : tie.Need-returns-2
 returns-2 c =
@@ -30,9 +30,12 @@ returns-2 c =
     let full = told .before .before in
     let on = full .before .before in
     line-is-full _ _ _ _ _ _ _ (on .if1 .left) (full .if2 .taken)
-    (reached-bad _ _ _ _ (inside (entry on)) _ (told .bad .ensures .0) (told .bad .ensures .1))
+    (reached-bad _ _ _ _ (inside (entry on)) _ (told .bad .ensures))
 
--- the line's value, and what the line says
+-- a good line: once it is done, its value, and what the line says
+abbrev done : tie.After-slice-known7 → tie.After-good2
+done c = c .before .before .before .before .before .before
+
 abbrev value : tie.After-good2 → tie.After-v
 value c = c .before .before .before .before .before
 
@@ -41,10 +44,10 @@ said c = c .before .before
 
 returns-3 : tie.Need-returns-3
 returns-3 c =
-    let done = c .before .before .before .before .before .before in
-    let f = said (value done) in
-    line-is _ _ _ _ _ _ _ _ (going (f .before) .if1 .left) (f .before .if2 .left) (sym (value done .v .given .1) ∙ f .field .ensures)
-    (done .good2 .ensures)
+    let v = value (done c) in
+    let f = said v in
+    line-is _ _ _ _ _ _ _ _ (going (f .before) .if1 .left) (f .before .if2 .left) (sym (v .v .given .1) ∙ f .field .ensures)
+    (done c .good2 .ensures)
 
 returns-4 : tie.Need-returns-4
 returns-4 c =
@@ -52,7 +55,7 @@ returns-4 c =
     let none = told .before .before in
     let f = none .before .before in
     line-is _ _ _ _ _ _ _ _ (going (f .before) .if1 .left) (f .before .if2 .left) (sym (none .enum-told .given .1) ∙ f .field .ensures)
-    (reached-bad _ _ _ _ (inside (entry (going (f .before)))) _ (told .bad2 .ensures .0) (told .bad2 .ensures .1))
+    (reached-bad _ _ _ _ (inside (entry (going (f .before)))) _ (told .bad2 .ensures))
 
 pub line-read-spec : {M : Type 1} → statement M
 line-read-spec =

@@ -1,3 +1,4 @@
+-- `stop` is `stopped`: the replay is over, and all else unchanged. One way out.
 use mathlib.Core.Path.{refl}
 use Rattle.replay_meaning.specs.Run.{stopped}
 use Rattle.replay_lines.proofs.line.stop.Statement.{statement}

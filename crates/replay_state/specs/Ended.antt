@@ -1,11 +1,12 @@
--- The last text, into a lent buffer.
+-- How a replay ends: its last text, written into a lent buffer.
+use mathlib.Core.Path.{_≡_}
 use mathlib.Core.Bool.{cond}
 use mathlib.Core.List.{List, [], _++_}
 use Prim.Native.Nat.{ℕ}
 use lib.Dec.{leb}
 use lib.ListN.{length, drop}
-use Rattle.ended.specs.declared.Ended.{Ended}
-use Rattle.ended.specs.declared.Ended.the-variants.{Said, Full}
+use Rattle.replay_state.specs.declared.Ended.{Ended}
+use Rattle.replay_state.specs.declared.Ended.the-variants.{Said, Full}
 
 -- a buffer whose first bytes are a text, the others being as they were
 abbrev pub over : List ℕ → List ℕ → List ℕ
@@ -17,3 +18,8 @@ endedOf size t = cond (leb 32 size) (Said (length t)) Full
 
 unfoldable pub endedText : ℕ → List ℕ → List ℕ
 endedText size t = cond (leb 32 size) t []
+
+-- The last text t was asked for: the answer, and the whole buffer after it.
+pub record EndWritten (t buffer : List ℕ) (r : Ended) (buffer′ : List ℕ) : Type 0 where
+  pub answer : r ≡ endedOf (length buffer) t
+  pub output : buffer′ ≡ over (endedText (length buffer) t) buffer
