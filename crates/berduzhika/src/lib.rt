@@ -134,7 +134,7 @@ pub extern "C" fn berduzhika_activate(
         dist_presence,
         redist_presence,
         shape,
-        intid, // as it came: 65836 takes no 300
+        intid, // whole: 65836 is not taken for 300
         taken,
     ))
 }
@@ -174,7 +174,7 @@ pub extern "C" fn berduzhika_deactivate(
         dist_presence,
         redist_presence,
         shape,
-        intid, // as it came: 65836 lets no 300 go
+        intid, // whole: 65836 does not let 300 go
         done,
     ))
 }

@@ -19,7 +19,8 @@ pub record Tables : Type 0 where
   pub redistPresence : List ℕ
 
 abbrev pub lent : List ℕ → List ℕ → List ℕ → List ℕ → Tables
-lent d r dp rp = record { dist = d; redist = r; distPresence = dp; redistPresence = rp }
+lent dist redist distPresence redistPresence =
+    record { dist = dist; redist = redist; distPresence = distPresence; redistPresence = redistPresence }
 
 abbrev pub recordsOf : Frame → Tables → List ℕ
 recordsOf Dist t = t .dist
