@@ -28,7 +28,7 @@ use Rattle.meaning.specs.Registers.{kindOf}
 use Rattle.meaning.specs.Rule.{Deed, idle, write, send, happen, clear, secureKind, mayTouch, reaches, bitOf, switched, guarded}
 use Rattle.meaning.specs.Rule.{fixedField, configured, update, sets, sent, happened, aims, admits, effect, performed}
 use Rattle.meaning.proofs.Choices.{cond-keeps, cond-both, not-false}
-use Rattle.meaning.proofs.Sides.{isClear, bySecure, onGuard, rewrites, regroups}
+use Rattle.meaning.proofs.Sides.{isClear, bySecure, onGuard, rewrites, tellsSide, regroups}
 
 -- the bit is a guard, or one of those that deeds of every day write
 abbrev guarding : (Guard → Bool) → Bit → Bool
@@ -110,7 +110,7 @@ blind-rest : Blind (λ (c : Cell). c .rest) (λ x. false)
 unfolding put
 blind-rest b h v c = refl
 
-blind-side : Blind nonSecure (λ x. true)
+blind-side : Blind nonSecure tellsSide
 unfolding put nonSecure
 blind-side Group h v c = absurd (clash refl h)
 blind-side Modifier h v c = refl
@@ -155,7 +155,7 @@ module _ (s : Shape) (i : Interrupt) (c : Cell) where
   rest-kept d r = performed-kept (λ c. c .rest) (λ x. false) blind-rest s i c d (no-guards d r)
 
   pub side-kept : (d : Deed) → regroups d ≡ false → nonSecure (performed s d i c) ≡ nonSecure c
-  side-kept d r = performed-kept nonSecure (λ x. true) blind-side s i c d r
+  side-kept d r = performed-kept nonSecure tellsSide blind-side s i c d r
 
   pub owned-kept : (d : Deed) → regroups d ≡ false → owned (performed s d i c) ≡ owned c
   unfolding owned

@@ -3,6 +3,7 @@ use mathlib.Core.Bool.{Bool, true, false}
 use Rattle.types.specs.declared.Side.{Side}
 use Rattle.types.specs.declared.Side.the-variants.{Secure, NonSecure}
 use Rattle.types.specs.declared.Guard.{Guard}
+use Rattle.types.specs.declared.Guard.the-variants as guard
 use Rattle.types.specs.declared.Kind.{Kind}
 use Rattle.types.specs.declared.Kind.the-variants.{Switched, Guarded, Trigger}
 use Rattle.types.specs.declared.Event.{Event}
@@ -54,6 +55,11 @@ rewrites p (send side g v) = false
 rewrites p (happen e m) = false
 rewrites p clear = true
 
--- group and modifier writes by the Secure side, and reset
+-- what tells the side: the group alone
+abbrev pub tellsSide : Guard → Bool
+tellsSide guard.Group = true
+tellsSide guard.Modifier = false
+
+-- IGROUPR writes by the Secure side, and reset
 abbrev pub regroups : Deed → Bool
-regroups d = rewrites (λ g. true) d
+regroups d = rewrites tellsSide d

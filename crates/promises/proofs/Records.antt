@@ -39,7 +39,7 @@ unreached s a p i e h = by-place (λ (d : Deed). aims s d i ≡ false) a refl p 
     by (target.Message g) h = h
 
 -- only a reset clears
-clears-none : (q : Step) → (q ≡ reset → ⊥) → isClear (deedOf q) ≡ false
+pub clears-none : (q : Step) → (q ≡ reset → ⊥) → isClear (deedOf q) ≡ false
 unfolding deedOf
 clears-none (access a) n = by-access (λ (d : Deed). isClear d ≡ false) a refl (λ p e w. by (targetOf p))
   where

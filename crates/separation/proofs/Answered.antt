@@ -1,11 +1,13 @@
 -- NO NON-SECURE WORD ACCESS AT A LISTED OFFSET IS REFUSED, nor a Secure one.
+--   column          a column of listed words
 --   listed-placed   a word access at a listed offset goes to its place
 --   word-answered   and with well-formed tables it is done
 use mathlib.Core.Path.{_≡_, refl, ap, _∙_}
 use mathlib.Core.Bool.{true}
-use Prim.Native.Nat.{ℕ, _-_}
+use Prim.Native.Nat.{ℕ, _+_, _-_, _*_, _%_, _≤_, _<_}
 use native.Mathlib.Omega.{arith}
 use borrow.Author.Tests.{le-ltb}
+use Rattle.lists.proofs.Tables.{tabulate, tabulate-same}
 use Rattle.types.specs.declared.Frame.{Frame}
 use Rattle.types.specs.declared.Side.{Side}
 use Rattle.types.specs.declared.Shape.{Shape}
@@ -16,7 +18,7 @@ use Rattle.types.specs.declared.Place.the-variants as place
 use Rattle.types.specs.declared.Decoded.the-variants.{At}
 use Rattle.types.specs.declared.Answer.the-variants.{Done}
 use Rattle.meaning.specs.Layout.{Tables, wellFormed, cellOf}
-use Rattle.meaning.specs.Registers.{wideEnough, placeOf}
+use Rattle.meaning.specs.Registers.{wideEnough, listed, placeOf}
 use Rattle.meaning.specs.Rule.{access}
 use Rattle.meaning.specs.Step.{stepped}
 use Rattle.meaning.proofs.After.{answer-well}
@@ -28,6 +30,16 @@ wide (place.Word r f n) = refl
 wide (place.Extended r f n) = refl
 wide place.Typer = refl
 wide (place.Message g) = refl
+
+-- a column of listed words, computed whole at once
+pub column : (r : Frame) (base n : ℕ) (at : ℕ → Place) → base % 4 ≡ 0 → base + 4 * n ≤ 65536
+    → tabulate (λ k. listed r (base + 4 * k)) 0 n ≡ tabulate (λ k. At (at k)) 0 n → (k : ℕ) → k < n → ListedAt r (base + 4 * k) (at k)
+column r base n at even small same k l =
+    record {
+      small = omega arith;
+      aligned = omega arith;
+      known = tabulate-same (λ k. listed r (base + 4 * k)) (λ k. At (at k)) n same k l;
+    }
 
 pub listed-placed : (r : Frame) (o : ℕ) (p : Place) → ListedAt r o p → (side : Side) (w : Way) (v : ℕ)
     → placeOf (record { frame = r; side = side; way = w; width = 4; offset = o; value = v }) ≡ At p

@@ -1,6 +1,6 @@
 -- THE TABLE WHERE NO SECURE INTERRUPT EXISTS, its presence bits really cleared in the lent words. The Non-secure side cannot tell it from
 -- the tables as they are.
---   as-if-none           clause 2: a run, and its Non-secure steps alone on that table
+--   as-if-none           clause 2: a run, and the same without its private steps on that table
 --   as-if-none-private   or with private steps of that table's own
 --   well-there, none-secure, owned-there   that table is well-formed, has no Secure interrupt, and has those that are owned
 use mathlib.Core.Path.{_≡_, refl, sym, ap, ap₂, _∙_}
@@ -27,12 +27,10 @@ use Rattle.meaning.specs.Rule.{Step}
 use Rattle.meaning.proofs.Bytes.{digit-back, digit-fits}
 use Rattle.meaning.proofs.Homes.{shared-home, own-home}
 use Rattle.meaning.proofs.After.{presence-length, well-lengths}
-use Rattle.separation.specs.Runs.{Item, publics, alone}
-use Rattle.separation.specs.Steps.{PrivateStep}
+use Rattle.separation.specs.Runs.{Item, withoutPrivate}
 use Rattle.separation.specs.Lent.{Run, Indistinct, Same, presentIntid, secureAt, cleared, withoutSecure}
 use Rattle.separation.proofs.Views.{alike-glimpse}
-use Rattle.separation.proofs.Steps.{private-quiet}
-use Rattle.separation.proofs.Tables.{owned-here, runs-indistinct, run-deleted}
+use Rattle.separation.proofs.Tables.{owned-here, runs-indistinct, deleted-indistinct}
 
 -- BIT intid % 32 of a home's presence word is its interrupt's, and the word is one of the table's
 abbrev Marked : Interrupt → Home → Type 0
@@ -147,15 +145,15 @@ module _ (s : Shape) (t : Tables) (well : wellFormed s t ≡ true) where
       record {
         first = well;
         second = well-there;
-        same = λ i. alike-glimpse i (cellOf s t i) (cellOf s there i) (sym (owned-there i)) (same-there i);
+        same = λ i. alike-glimpse (cellOf s t i) (cellOf s there i) (sym (owned-there i)) (same-there i);
       }
 
-  -- CLAUSE 2: a run on the tables, and its Non-secure steps alone on the table where no Secure interrupt exists ..
+  -- CLAUSE 2: a run on the tables, and the same without its private steps on the table where no Secure interrupt exists ..
   pub as-if-none : (r : List (Item Step)) → Run s t r
-      → Run s (withoutSecure s t) (alone (publics r)) × Same s t r (withoutSecure s t) (alone (publics r))
-  as-if-none = run-deleted s (PrivateStep s) (private-quiet s) t there indistinct-there
+      → Run s (withoutSecure s t) (withoutPrivate r) × Same s t r (withoutSecure s t) (withoutPrivate r)
+  as-if-none = deleted-indistinct s t there indistinct-there
 
   -- .. or with that table's own private steps
-  pub as-if-none-private : (r r' : List (Item Step)) → publics r ≡ publics r' → Run s t r → Run s (withoutSecure s t) r'
+  pub as-if-none-private : (r r' : List (Item Step)) → withoutPrivate r ≡ withoutPrivate r' → Run s t r → Run s (withoutSecure s t) r'
       → Same s t r (withoutSecure s t) r'
-  as-if-none-private = runs-indistinct s (PrivateStep s) (private-quiet s) t there indistinct-there
+  as-if-none-private = runs-indistinct s t there indistinct-there

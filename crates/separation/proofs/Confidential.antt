@@ -24,27 +24,34 @@ use Rattle.meaning.specs.Step.{Cells, wordRead, read, accessAnswer, answer}
 use Rattle.meaning.proofs.Sides.{sideBy}
 use Rattle.meaning.proofs.Gates.{secure-unseen, secure-refused}
 use Rattle.separation.specs.Steps.{NonSecureStep, its-access, its-activation, its-deactivation, its-wire}
-use Rattle.separation.specs.Lent.{Glimpse, glimpse}
+use Rattle.separation.specs.Steps.{Glimpse, glimpse, PrivateStep, CommonStep}
 use Rattle.separation.proofs.Unwinding.{Local, AlikeBy, LocalLaws}
-use Rattle.separation.proofs.Views.{Quiet, by-glimpse, same-owned, same-cell}
-use Rattle.separation.proofs.Steps.{unowned-left}
+use Rattle.separation.proofs.Views.{by-glimpse, both-hidden, same-owned, same-cell}
+use Rattle.separation.proofs.Steps.{unowned-left, common-kept}
 
 abbrev pub watched : Shape → Local Interrupt Cell Glimpse Step Answer
-watched s = record { act = act s; see = answer s; view = glimpse }
+watched s = record { act = act s; see = answer s; view = λ i c. glimpse c }
 
 -- WHAT IS DONE: alike interrupts stay alike
-act-same : (s : Shape) (a : Cells) (q : Step) → NonSecureStep a q → (i : Interrupt) (c : Cell) → glimpse i (a i) ≡ glimpse i c
-    → glimpse i (act s q i (a i)) ≡ glimpse i (act s q i c)
+act-same : (s : Shape) (a : Cells) (q : Step) → NonSecureStep a q → (i : Interrupt) (c : Cell) → glimpse (a i) ≡ glimpse c
+    → glimpse (act s q i (a i)) ≡ glimpse (act s q i c)
 act-same s a q n i c h =
-    by-glimpse i (a i) c (λ x y. glimpse i (act s q i x) ≡ glimpse i (act s q i y)) h refl
-    (λ e f. ap (glimpse i) (unowned-left s a q n i e (a i) e) ∙ (h ∙ sym (ap (glimpse i) (unowned-left s a q n i e c f))))
+    by-glimpse (a i) c (λ x y. glimpse (act s q i x) ≡ glimpse (act s q i y)) h refl
+    (λ e f. ap glimpse (unowned-left s a q n i e (a i) e) ∙ (h ∙ sym (ap glimpse (unowned-left s a q n i e c f))))
+
+-- a common step: the same cell's, or hidden after it as before
+common-same : (s : Shape) (q : Step) → CommonStep q → (i : Interrupt) (c d : Cell) → glimpse c ≡ glimpse d
+    → glimpse (act s q i c) ≡ glimpse (act s q i d)
+common-same s q n i c d h =
+    by-glimpse c d (λ x y. glimpse (act s q i x) ≡ glimpse (act s q i y)) h refl
+    (λ e f. both-hidden (act s q i c) (act s q i d) (common-kept s q n i c ∙ e) (common-kept s q n i d ∙ f))
 
 -- WHAT IS ANSWERED
 module _ (s : Shape) (a b : Cells) (alike : AlikeBy (watched s) a b) where
   -- a digit: the same cell's, or 0 in both
   visible-same : (k : Kind) (i : Interrupt) → visible s NonSecure k i (a i) ≡ visible s NonSecure k i (b i)
   visible-same k i =
-      by-glimpse i (a i) (b i) (λ x y. visible s NonSecure k i x ≡ visible s NonSecure k i y) (alike i) refl
+      by-glimpse (a i) (b i) (λ x y. visible s NonSecure k i x ≡ visible s NonSecure k i y) (alike i) refl
       (λ e f. secure-unseen s i (a i) k e ∙ sym (secure-unseen s i (b i) k f))
 
   read-same : (g : Target) → read s NonSecure g a ≡ read s NonSecure g b
@@ -68,7 +75,7 @@ module _ (s : Shape) (a b : Cells) (alike : AlikeBy (watched s) a b) where
   -- an event of the Non-secure side: the same cell's, or refused 7 in both
   event-same : (e : Event) (i : Interrupt) → sideBy e ≡ NonSecure → eventAnswer s e i (a i) ≡ eventAnswer s e i (b i)
   event-same e i n =
-      by-glimpse i (a i) (b i) (λ x y. eventAnswer s e i x ≡ eventAnswer s e i y) (alike i) refl
+      by-glimpse (a i) (b i) (λ x y. eventAnswer s e i x ≡ eventAnswer s e i y) (alike i) refl
       (λ h k. secure-refused s i (a i) e n h ∙ sym (secure-refused s i (b i) e n k))
 
   answer-same : (q : Step) → NonSecureStep a q → answer s q a ≡ answer s q b
@@ -76,21 +83,20 @@ module _ (s : Shape) (a b : Cells) (alike : AlikeBy (watched s) a b) where
   answer-same q (its-access x n) = access-same x n (placeOf x)
   answer-same q (its-activation m) = event-same (Activate NonSecure) (named m) refl
   answer-same q (its-deactivation m) = event-same (Deactivate NonSecure) (named m) refl
-  answer-same q (its-wire m level o) = ap (eventAnswer s (Wire level) (named m)) (same-cell (named m) _ _ (alike (named m)) o)
+  answer-same q (its-wire m level o) = ap (eventAnswer s (Wire level) (named m)) (same-cell _ _ (alike (named m)) o)
 
   step-same : (q : Step) → NonSecureStep a q → NonSecureStep b q
   step-same q (its-access x n) = its-access x n
   step-same q (its-activation m) = its-activation m
   step-same q (its-deactivation m) = its-deactivation m
-  step-same q (its-wire m level o) = its-wire m level (sym (same-owned (named m) _ _ (alike (named m))) ∙ o)
+  step-same q (its-wire m level o) = its-wire m level (sym (same-owned _ _ (alike (named m))) ∙ o)
 
--- with any private steps that leave what the Non-secure side has
-pub confidential : (s : Shape) (Private : Cells → Step → Type 0) → ((cells : Cells) (q : Step) → Private cells q → Quiet s cells q)
-    → LocalLaws (watched s) NonSecureStep Private
-confidential s Private quiet =
+pub confidential : (s : Shape) → LocalLaws (watched s) NonSecureStep CommonStep (PrivateStep s)
+confidential s =
     record {
       public-view = λ q a b h n. step-same s a b h q n;
       see-view = λ q a b h n. answer-same s a b h q n;
       act-view = λ q a n i c h. act-same s a q n i c h;
-      private-view = λ q a p i. quiet a q p i;
+      common-view = λ q n i c d h. common-same s q n i c d h;
+      private-view = λ q a p i. p i;
     }

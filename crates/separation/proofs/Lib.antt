@@ -6,5 +6,6 @@ pub mod Tables
 pub mod Answered
 pub mod ReadBack
 pub mod Cleared
+pub mod Unchanging
 pub mod Private
 pub mod Witness

@@ -1,16 +1,18 @@
 -- WHAT THE NON-SECURE SIDE SETS, IT READS BACK. After a write of v to a set register (enable, pending, active) the word reads: the old
 -- word, or v and the owned bits; after a write to a clear register (enable, active): the old word, and not v. Exactly, in every digit.
+--   word-read      what a read shows, at any listed word
 --   read-back, cleared-back   on the lent tables, at any listed word of the kind
---   ispendr-dist, ispendr-extended, ispendr-redist   the demand's own: the set-pending words are such
+--   ispendr-back   the demand's own: every listed word of ISPENDR is such
+--   set-pending    offset by offset
 use mathlib.Core.Path.{_≡_, refl, sym, ap, ap₂, _∙_}
 use mathlib.Core.Bool.{Bool, true, false, cond, not, _&&_, _||_}
-use Prim.Native.Nat.{ℕ, _+_, _-_, _*_, _%_, _≤_, _<_}
+use Prim.Native.Nat.{ℕ, _+_, _-_, _*_, _≤_, _<_}
 use native.Mathlib.Omega.{arith}
 use lib.Dec.{eqb}
+use borrow.Author.Tests.{le-ltb}
 use Rattle.lists.specs.Word.{digit, digitAt, row}
 use Rattle.lists.proofs.Bools.{both, clash}
 use Rattle.lists.proofs.Rows.{row-same}
-use Rattle.lists.proofs.Tables.{tabulate, tabulate-same}
 use Rattle.types.specs.declared.Side.the-variants.{NonSecure}
 use Rattle.types.specs.declared.Frame.{Frame}
 use Rattle.types.specs.declared.Frame.the-variants.{Dist, Redist}
@@ -29,12 +31,11 @@ use Rattle.types.specs.declared.Window.{Window}
 use Rattle.types.specs.declared.Target.{Target}
 use Rattle.types.specs.declared.Target.the-variants as target
 use Rattle.types.specs.declared.Decoded.{Decoded}
-use Rattle.types.specs.declared.Decoded.the-variants.{At}
 use Rattle.types.specs.declared.Answer.the-variants.{Done}
 use Rattle.meaning.specs.Interrupt.{Interrupt, intid, interrupt, inFrame, between}
 use Rattle.meaning.specs.Cell.{Cell, get, owned}
 use Rattle.meaning.specs.Layout.{Tables, wellFormed, cellOf}
-use Rattle.meaning.specs.Registers.{rowOf, kindOf, bitsOf, inColumn, redistPlace, listed, writtenValue, targetOf, names}
+use Rattle.meaning.specs.Registers.{rowOf, kindOf, bitsOf, inColumn, low, listed, writtenValue, window, targetOf, names}
 use Rattle.meaning.specs.Rule.{access, Deed, write, writeTo, accessed, deedOf, sees, mayTouch, reaches, update, stateOf}
 use Rattle.meaning.specs.Rule.{shows, visible, aims, admits, effect, performed, act}
 use Rattle.meaning.specs.Step.{Cells, wordRead, read, accessAnswer, answer}
@@ -45,10 +46,10 @@ use Rattle.meaning.proofs.Kept.{owned-kept}
 use Rattle.meaning.proofs.Effects.{set-shown, bit-cleared}
 use Rattle.meaning.proofs.Homes.{between-in}
 use Rattle.meaning.proofs.After.{answer-well, well-kept, cells-stepped}
-use Rattle.promises.proofs.Shown.{digit-read}
-use Rattle.separation.specs.Steps.{one}
-use Rattle.separation.specs.ReadBack.{ListedAt, nonSecureWord, readAt, writtenAt, oldOrOwned, oldAndNot, clearsShown}
-use Rattle.separation.proofs.Answered.{listed-placed}
+use Rattle.promises.proofs.Shown.{digit-shown}
+use Rattle.separation.specs.ReadBack.{ListedAt, nonSecureWord, one, readAt, writtenAt}
+use Rattle.separation.specs.ReadBack.{oldOrOwned, oldAndNot, clearsShown, ReadsBack, SetPending}
+use Rattle.separation.proofs.Answered.{listed-placed, column}
 
 -- the interrupts of a window's digits
 intid-of : (r : Frame) (m : ℕ) → intid (interrupt r m) ≡ m
@@ -112,7 +113,7 @@ module _ (s : Shape) (on : Bool) (b : Switch) (G : Bool → Bool → Bool) (stat
     digit-new x l =
         let i = ith x in
         let c = cells (ith x) in
-        let was = digit-read s NonSecure w x l cells ∙ (ap (λ (k : Kind). visible s NonSecure k i c) kind ∙ seen i c) in
+        let was = digit-shown s NonSecure w x l cells ∙ (ap (λ (k : Kind). visible s NonSecure k i c) kind ∙ seen i c) in
         ap (λ (k : Kind). visible s NonSecure k i (after i)) kind
         ∙ (seen i (after i)
         ∙ (ap (λ (o : Bool). cond o (digit (stateOf s b i (after i))) 0) (still-owned i)
@@ -150,7 +151,7 @@ module _ (s : Shape) (t : Tables) (well : wellFormed s t ≡ true) (r : Frame) (
   asked x v = record { frame = r; side = NonSecure; way = x; width = 4; offset = o; value = v }
 
   -- a read shows the word of the interrupts as they are
-  word-read : (u : Tables) → wellFormed s u ≡ true → (y : ℕ) → readAt s r o y u ≡ Done (wordRead s NonSecure w (cellOf s u))
+  pub word-read : (u : Tables) → wellFormed s u ≡ true → (y : ℕ) → readAt s r o y u ≡ Done (wordRead s NonSecure w (cellOf s u))
   unfolding answer read asked
   word-read u h y =
       answer-well s (access (asked Read y)) u h
@@ -195,24 +196,41 @@ module _ (s : Shape) (t : Tables) (well : wellFormed s t ≡ true) (r : Frame) (
       (word-after s false b (λ x y. not x && y) (clear-shown s b shown) w kind v (cellOf s t) (λ x o y. not x && y) clear-form)
       ∙ ap (λ (n : ℕ). Done (oldAndNot w n v)) (old-word old y was))
 
--- THE DEMAND'S OWN: document 01's set-pending words. A column of the listed words is computed whole, at once.
-column : (r : Frame) (base n : ℕ) (at : ℕ → Place) → base % 4 ≡ 0 → base + 4 * n ≤ 65536
-    → tabulate (λ k. listed r (base + 4 * k)) 0 n ≡ tabulate (λ k. At (at k)) 0 n → (k : ℕ) → k < n → ListedAt r (base + 4 * k) (at k)
-column r base n at even small same k l =
+-- THE DEMAND'S OWN: every listed word of ISPENDR, at whatever offset of either frame, is such a word ..
+pub ispendr-back : (s : Shape) (t : Tables) → wellFormed s t ≡ true → (r : Frame) (o : ℕ) (p : Place) → ListedAt r o p → (w : Window)
+    → targetOf p ≡ target.Digits w → w .family ≡ Ispendr → (old v y z : ℕ) → readAt s r o y t ≡ Done old
+    → readAt s r o z (writtenAt s r o v t) ≡ Done (oldOrOwned w old v (cellOf s t))
+unfolding rowOf
+ispendr-back s t well r o p at w is f = read-back s t well r o p at w is Pending (ap kindOf f)
+
+-- .. and these are they, offset by offset
+pub set-pending : (s : Shape) (t : Tables) → wellFormed s t ≡ true → SetPending s t
+unfolding listed inColumn rowOf targetOf
+set-pending s t well =
     record {
-      small = omega arith;
-      aligned = omega arith;
-      known = tabulate-same (λ k. listed r (base + 4 * k)) (λ k. At (at k)) n same k l;
+      dist-0 = back Dist 0x200 (place.Word Dist Ispendr 0)
+          (column Dist 0x200 1 (place.Word Dist Ispendr) refl (omega arith) refl 0 (omega arith)) 0 0 refl;
+      dist = λ n l.
+          back Dist (0x204 + 4 * n) (place.Word Dist Ispendr (n + 1))
+          (column Dist 0x204 31 (λ k. place.Word Dist Ispendr (k + 1)) refl (omega arith) refl n l) (32 + 32 * n) 32 (high n);
+      dist-extended = λ n l.
+          back Dist (0x1600 + 4 * n) (place.Extended Dist Ispendr n)
+          (column Dist 0x1600 32 (place.Extended Dist Ispendr) refl (omega arith) refl n l) (4096 + 32 * n) 32 refl;
+      redist = back Redist 0x200 (place.Word Redist Ispendr 0)
+          (column Redist 0x200 1 (place.Word Redist Ispendr) refl (omega arith) refl 0 (omega arith)) 0 32 refl;
+      redist-extended = λ n l.
+          back Redist (0x204 + 4 * n) (place.Extended Redist Ispendr (n + 1))
+          (column Redist 0x204 2 (λ k. place.Extended Redist Ispendr (k + 1)) refl (omega arith) refl n l) (1056 + 32 * n) 32
+          (let e : 1024 + 32 * (n + 1) ≡ 1056 + 32 * n = omega arith in ap (λ (m : ℕ). window Redist Ispendr m 32) e);
     }
+  where
+    back : (r : Frame) (o : ℕ) (p : Place) → ListedAt r o p → (first count : ℕ) → targetOf p ≡ window r Ispendr first count
+        → ReadsBack s t r o first count
+    back r o p at first count is = ispendr-back s t well r o p at _ is refl
 
-pub ispendr-dist : (n : ℕ) → n < 32 → ListedAt Dist (0x200 + 4 * n) (place.Word Dist Ispendr n)
-unfolding listed inColumn rowOf
-ispendr-dist = column Dist 0x200 32 (place.Word Dist Ispendr) refl (omega arith) refl
-
-pub ispendr-extended : (n : ℕ) → n < 32 → ListedAt Dist (0x1600 + 4 * n) (place.Extended Dist Ispendr n)
-unfolding listed inColumn rowOf
-ispendr-extended = column Dist 0x1600 32 (place.Extended Dist Ispendr) refl (omega arith) refl
-
-pub ispendr-redist : (n : ℕ) → n < 3 → ListedAt Redist (0x200 + 4 * n) (redistPlace Ispendr n)
-unfolding listed inColumn rowOf
-ispendr-redist = column Redist 0x200 3 (redistPlace Ispendr) refl (omega arith) refl
+    high : (n : ℕ) → window Dist Ispendr (32 * (n + 1)) (cond (low (32 * (n + 1))) 0 32) ≡ window Dist Ispendr (32 + 32 * n) 32
+    high n =
+        let e : 32 * (n + 1) ≡ 32 + 32 * n = omega arith in
+        let past : 32 ≤ 32 * (n + 1) = omega arith in
+        ap (λ (b : Bool). window Dist Ispendr (32 * (n + 1)) (cond b 0 32)) (le-ltb (32 * (n + 1)) 32 past)
+        ∙ ap (λ (m : ℕ). window Dist Ispendr m 32) e

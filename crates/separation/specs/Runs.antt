@@ -7,45 +7,71 @@ pub record Machine (S Q A : Type 0) : Type 0 where
   pub step : Q → S → S
   pub see : Q → S → A
 
--- a step of a run: the observer's own, or a private one of the other side
+-- A step of a run: the observer's own; one that is taken in common, by every run that this one is compared with, and that he does not
+-- hear the answer of; or one that is private to this run.
 pub data Item (Q : Type 0) : Type 0 where
   public : Q → Item Q
+  common : Q → Item Q
   private : Q → Item Q
 
--- the observer's steps of a run
+-- the run without its private steps
+abbrev pub withoutPrivate : {Q : Type 0} → List (Item Q) → List (Item Q)
+withoutPrivate [] = []
+withoutPrivate (public q ∷ r) = public q ∷ withoutPrivate r
+withoutPrivate (common q ∷ r) = common q ∷ withoutPrivate r
+withoutPrivate (private q ∷ r) = withoutPrivate r
+
+-- the observer's steps of a run, and the others
 abbrev pub publics : {Q : Type 0} → List (Item Q) → List Q
 publics [] = []
 publics (public q ∷ r) = q ∷ publics r
+publics (common q ∷ r) = publics r
 publics (private q ∷ r) = publics r
 
--- the run of these steps and no others
-abbrev pub alone : {Q : Type 0} → List Q → List (Item Q)
-alone [] = []
-alone (q ∷ qs) = public q ∷ alone qs
+abbrev pub others : {Q : Type 0} → List (Item Q) → List Q
+others [] = []
+others (public q ∷ r) = others r
+others (common q ∷ r) = q ∷ others r
+others (private q ∷ r) = q ∷ others r
+
+-- nothing is taken in common: the observer's steps and private ones
+abbrev pub Plain : {Q : Type 0} → List (Item Q) → Type 0
+Plain [] = Unit
+Plain (public q ∷ r) = Plain r
+Plain (common q ∷ r) = ⊥
+Plain (private q ∷ r) = Plain r
 
 -- what the observer has of a step of his: its answer, and the state that it leaves
 pub record Sight (S A : Type 0) : Type 0 where
   pub answered : A
   pub left : S
 
+-- the answers alone
+abbrev pub heard : {S A : Type 0} → List (Sight S A) → List A
+heard [] = []
+heard (x ∷ xs) = x .answered ∷ heard xs
+
 module _ {S Q A : Type 0} where
   -- what he has of a run. Each step is taken on the state that the step before left.
   abbrev pub sights : Machine S Q A → S → List (Item Q) → List (Sight S A)
   sights M a [] = []
   sights M a (public q ∷ r) = record { answered = M .see q a; left = M .step q a } ∷ sights M (M .step q a) r
+  sights M a (common q ∷ r) = sights M (M .step q a) r
   sights M a (private q ∷ r) = sights M (M .step q a) r
 
   -- the state at the end of a run
   abbrev pub ended : Machine S Q A → S → List (Item Q) → S
   ended M a [] = a
   ended M a (public q ∷ r) = ended M (M .step q a) r
+  ended M a (common q ∷ r) = ended M (M .step q a) r
   ended M a (private q ∷ r) = ended M (M .step q a) r
 
   -- each step is what it is called, at the state where it is taken
-  abbrev pub Honest : Machine S Q A → (S → Q → Type 0) → (S → Q → Type 0) → S → List (Item Q) → Type 0
-  Honest M Public Private a [] = Unit
-  Honest M Public Private a (public q ∷ r) = Public a q × Honest M Public Private (M .step q a) r
-  Honest M Public Private a (private q ∷ r) = Private a q × Honest M Public Private (M .step q a) r
+  abbrev pub Honest : Machine S Q A → (S → Q → Type 0) → (Q → Type 0) → (S → Q → Type 0) → S → List (Item Q) → Type 0
+  Honest M Public Common Private a [] = Unit
+  Honest M Public Common Private a (public q ∷ r) = Public a q × Honest M Public Common Private (M .step q a) r
+  Honest M Public Common Private a (common q ∷ r) = Common q × Honest M Public Common Private (M .step q a) r
+  Honest M Public Common Private a (private q ∷ r) = Private a q × Honest M Public Common Private (M .step q a) r
 
 -- good states of which the observer has the same, index by index
 pub record Alike {S I W : Type 0} (Good : S → Type 0) (has : S → I → W) (a b : S) : Type 0 where
