@@ -3,3 +3,4 @@ pub mod Pieces
 pub mod Lines
 pub mod Counts
 pub mod Cases
+pub mod Separate
