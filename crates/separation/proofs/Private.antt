@@ -1,5 +1,7 @@
 -- DOCUMENT 01'S PRIVATE SECURE STEPS, by name and at their offsets, are private.
---   private-list   all of them
+--   spared-word    a set or clear write at any listed word, with no 1 at what is owned
+--   secure-word    a field write at any listed word whose interrupts are none of them owned
+--   private-list   all of the list
 use mathlib.Core.Path.{_≡_, refl, sym, ap, _∙_}
 use mathlib.Core.Bool.{Bool, true, false, cond}
 use Prim.Native.Nat.{ℕ, _+_, _*_, _-_, _/_, _%_, _^_, _≤_, _<_}
@@ -73,7 +75,7 @@ module _ (s : Shape) (cells : Cells) where
     by-deed h i = ap (λ (d : Deed). glimpse (performed s d i (cells i))) word-deed ∙ h i
 
     -- with no 1 at what is owned, a set or clear write leaves that
-    spared-word : (on : Bool) (b : Switch) → kindOf f ≡ Switched on b → bitsOf f ≡ 1 → count ≤ 32
+    pub spared-word : (on : Bool) (b : Switch) → kindOf f ≡ Switched on b → bitsOf f ≡ 1 → count ≤ 32
         → Spares cells (λ x. interrupt r (first + x)) v → PrivateStep s cells (secureWrite r 4 o v)
     unfolding rewrites
     spared-word on b kind bits small spares =
@@ -95,7 +97,7 @@ module _ (s : Shape) (cells : Cells) where
             bit-digit x ∙ spares x (omega arith) (ap (λ (j : Interrupt). owned (cells j)) here ∙ mine)
 
     -- where none of its interrupts is owned, a field write leaves what is
-    secure-word : kindOf f ≡ Trigger → count ≤ 16 → AllSecure cells (λ x. interrupt r (first + x))
+    pub secure-word : kindOf f ≡ Trigger → count ≤ 16 → AllSecure cells (λ x. interrupt r (first + x))
         → PrivateStep s cells (secureWrite r 4 o v)
     unfolding rewrites aims
     secure-word kind small all =

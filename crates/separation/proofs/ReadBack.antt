@@ -3,7 +3,8 @@
 --   word-read      what a read shows, at any listed word
 --   read-back, cleared-back   on the lent tables, at any listed word of the kind
 --   ispendr-back   the demand's own: every listed word of ISPENDR is such
---   set-pending    offset by offset
+--   icenabler-back, icactiver-back   and every listed word of these, of the clear words
+--   set-pending    those of ISPENDR offset by offset
 use mathlib.Core.Path.{_≡_, refl, sym, ap, ap₂, _∙_}
 use mathlib.Core.Bool.{Bool, true, false, cond, not, _&&_, _||_}
 use Prim.Native.Nat.{ℕ, _+_, _-_, _*_, _≤_, _<_}
@@ -24,7 +25,7 @@ use Rattle.types.specs.declared.Kind.the-variants.{Switched}
 use Rattle.types.specs.declared.Way.{Way}
 use Rattle.types.specs.declared.Way.the-variants.{Read, Write}
 use Rattle.types.specs.declared.Access.{Access}
-use Rattle.types.specs.declared.Family.the-variants.{Ispendr}
+use Rattle.types.specs.declared.Family.the-variants.{Icenabler, Ispendr, Icactiver}
 use Rattle.types.specs.declared.Place.{Place}
 use Rattle.types.specs.declared.Place.the-variants as place
 use Rattle.types.specs.declared.Window.{Window}
@@ -203,7 +204,20 @@ pub ispendr-back : (s : Shape) (t : Tables) → wellFormed s t ≡ true → (r :
 unfolding rowOf
 ispendr-back s t well r o p at w is f = read-back s t well r o p at w is Pending (ap kindOf f)
 
--- .. and these are they, offset by offset
+-- .. and every listed word of ICENABLER and ICACTIVER is one of the clear words ..
+module _ (s : Shape) (t : Tables) (well : wellFormed s t ≡ true) (r : Frame) (o : ℕ) (p : Place) (at : ListedAt r o p) (w : Window)
+    (is : targetOf p ≡ target.Digits w) where
+  pub icenabler-back : w .family ≡ Icenabler → (old v y z : ℕ) → readAt s r o y t ≡ Done old
+      → readAt s r o z (writtenAt s r o v t) ≡ Done (oldAndNot w old v)
+  unfolding rowOf
+  icenabler-back f = cleared-back s t well r o p at w is Enable refl (ap kindOf f)
+
+  pub icactiver-back : w .family ≡ Icactiver → (old v y z : ℕ) → readAt s r o y t ≡ Done old
+      → readAt s r o z (writtenAt s r o v t) ≡ Done (oldAndNot w old v)
+  unfolding rowOf
+  icactiver-back f = cleared-back s t well r o p at w is Active refl (ap kindOf f)
+
+-- .. and the set-pending words are these, offset by offset
 pub set-pending : (s : Shape) (t : Tables) → wellFormed s t ≡ true → SetPending s t
 unfolding listed inColumn rowOf targetOf
 set-pending s t well =

@@ -1,5 +1,6 @@
 -- WHAT THE STEPS OF A RUN LEAVE, and whose they are.
---   covered, wire-covered   every step of the Non-secure side is a Non-secure step, by its side alone; so is a Non-secure wire event
+--   covered, whose-each     every step of the Non-secure side is a Non-secure step, by its side alone: accesses, activations, deactivations
+--   wire-covered            so is a Non-secure wire event
 --   unowned-left            a Non-secure step leaves what the Non-secure side does not own
 --   common-kept             a common step leaves what is owned to be owned, and what is not to be not
 --   quietly                 a deed that leaves the sides, and what is owned, leaves what the Non-secure side has
@@ -10,6 +11,7 @@ use Prim.Native.Nat.{ℕ}
 use native.Mathlib.Omega.{arith}
 use Rattle.lists.proofs.Bools.{clash}
 use Rattle.types.specs.declared.Shape.{Shape}
+use Rattle.types.specs.declared.Side.{Side}
 use Rattle.types.specs.declared.Side.the-variants.{Secure, NonSecure}
 use Rattle.types.specs.declared.Access.{Access}
 use Rattle.types.specs.declared.Family.{Family}
@@ -47,6 +49,11 @@ covered cells (happens (Activate Secure) m) h = absurd (let z : _≡_ {A = ℕ} 
 covered cells (happens (Deactivate NonSecure) m) h = its-deactivation m
 covered cells (happens (Deactivate Secure) m) h = absurd (let z : _≡_ {A = ℕ} 0 1 = cc in omega arith)
 covered cells reset h = absurd (let z : _≡_ {A = ℕ} 0 1 = cc in omega arith)
+
+-- whose a step is: an access its side's, an event the side's that activates or deactivates
+pub whose-each : (a : Access) (side : Side) (m : ℕ)
+    → (whose (access a) ≡ of (a .side)) × (whose (happens (Activate side) m) ≡ of side) × (whose (happens (Deactivate side) m) ≡ of side)
+whose-each a side m = (refl, refl, refl)
 
 pub wire-covered : (cells : Cells) (m : ℕ) (level : Bool) → owned (cells (named m)) ≡ true → NonSecureStep cells (happens (Wire level) m)
 wire-covered cells m level h = its-wire m level h

@@ -2,7 +2,7 @@
 -- takes a step, each with private steps of its own, and answers to the Non-secure side that are not zero. SPIs 300 and 301 are Non-secure,
 -- 301 pending; SPIs 44, the wheel-speed tick, and 45 to 48 are Secure; 400 is missing.
 --   alike                          the tables are alike, though a Secure and a missing interrupt's records differ
---   witness                        the theorem, at these tables and runs
+--   witness                        the theorem, at these tables and runs; plain-witness at runs without steps in common, in bytes
 --   first-heard, second-heard      what the Non-secure side is answered in each: 0x2000, done, 0x3000
 --   first-apart, second-apart      SPI 45's record where it takes its steps: 0 in one run, 4 in the other
 --   none-heard                     the same answers from the table where no Secure interrupt exists
@@ -43,10 +43,10 @@ use Rattle.promises.proofs.Records.{unaimed-kept}
 use Rattle.separation.specs.Runs.{Item, public, common, private, withoutPrivate, heard, sights}
 use Rattle.separation.specs.Steps.{NonSecureStep, PrivateStep, CommonStep}
 use Rattle.separation.specs.Private.{secureWrite}
-use Rattle.separation.specs.Lent.{controller, Run, AlikeTables, Same, withoutSecure}
+use Rattle.separation.specs.Lent.{controller, Run, AlikeTables, Same, SameInBytes, withoutSecure}
 use Rattle.separation.specs.ReadBack.{ListedAt, nonSecureWord, readAt, writtenAt, oldOrOwned}
 use Rattle.separation.proofs.Steps.{covered}
-use Rattle.separation.proofs.Tables.{same-heard, same-for-both, private-deleted}
+use Rattle.separation.proofs.Tables.{same-heard, same-for-both, demand-3, private-deleted}
 use Rattle.separation.proofs.Cleared.{as-if-none}
 use Rattle.separation.proofs.Private.{private-list}
 use Rattle.separation.proofs.Answered.{word-answered}
@@ -221,6 +221,23 @@ second-honest = (
 -- THE THEOREM at these
 pub witness : Same bench before first-run other second-run
 witness = same-for-both bench before other before-well other-well alike first-run second-run refl first-honest second-honest
+
+-- DOCUMENT 01'S WORDS at two runs without steps in common
+abbrev first-plain : List (Item Step)
+first-plain = private (rises 44) ∷ (public look ∷ (private (rises 46) ∷ []))
+
+abbrev second-plain : List (Item Step)
+second-plain = public look ∷ (private (rises 47) ∷ [])
+
+pub plain-witness : SameInBytes bench before first-plain other second-plain
+unfolding aims deedOf placeOf listed inColumn rowOf targetOf names same named frameOf owned nonSecure cellOf implemented homeOf inRange
+    decode before other bitAt
+plain-witness =
+    demand-3 bench before other before-well other-well alike first-plain second-plain tt tt refl (
+      rise-private [] before before-well 44 tt refl,
+      (looks _, (rise-private (rises 44 ∷ (look ∷ [])) before before-well 46 (refl, (refl, tt)) refl, tt)),
+    )
+    (looks _, (rise-private (look ∷ []) other other-well 47 (refl, tt) refl, tt))
 
 -- WHAT IS HEARD: without private steps by the rule and the read-back, in the runs by the theorems
 at-224 : ListedAt Dist 0x224 (place.Word Dist Ispendr 9)
