@@ -1,4 +1,5 @@
 -- THE LENT TABLES AFTER A STEP are the rule at every interrupt; and what the rule leaves keeps the number that was lent.
+--   slot-cell, slot-number   the interrupt that a slot keeps, and its number there
 --   cell-after      each interrupt of the tables after a step is the rule's
 --   record-stays    an interrupt that the rule leaves keeps its number, whatever that was
 --   rest-stays      what is above a number's eight bits is changed by a reset alone
@@ -116,6 +117,11 @@ pub slot-cell : (s : Shape) (t : Tables) (r : Frame) (k : ℕ) → k < slots r
 unfolding cellOf
 slot-cell s t r k l = ap (λ (h : Home). decode (implemented s t (interruptAt r k)) (recordAt t h)) (slot-home r k l .1)
 
+-- the number at a slot is its interrupt's
+pub slot-number : (s : Shape) (t : Tables) (r : Frame) (k : ℕ) → k < slots r
+    → encode (cellOf s t (interruptAt r k)) ≡ getD (recordsOf r t) k 0
+slot-number s t r k l = record-of s t (interruptAt r k) ∙ ap (recordAt t) (slot-home r k l .1)
+
 module _ (s : Shape) (q : Step) (t : Tables) (fit : lengthsFit t ≡ true) where
   abbrev after : Interrupt → Cell
   after i = act s q i (cellOf s t i)
@@ -177,14 +183,11 @@ module _ (s : Shape) (q : Step) (t : Tables) (fit : lengthsFit t ≡ true) where
       ap (λ (xs : List ℕ). getD xs k 0) (records-after r)
       ∙ column-at after encode r (recordsOf r t) k (rw (records-length t fit r) l)
 
-  slot-before : (r : Frame) (k : ℕ) → k < slots r → encode (cellOf s t (interruptAt r k)) ≡ getD (recordsOf r t) k 0
-  slot-before r k l = record-of s t (interruptAt r k) ∙ ap (recordAt t) (slot-home r k l .1)
-
   -- UNTOUCHED NUMBERS STAY
   pub record-stays : (r : Frame) (k : ℕ) → k < slots r
       → act s q (interruptAt r k) (cellOf s t (interruptAt r k)) ≡ cellOf s t (interruptAt r k)
       → getD (recordsOf r (tablesAfter s q t)) k 0 ≡ getD (recordsOf r t) k 0
-  record-stays r k l h = slot-after r k l ∙ (ap encode h ∙ slot-before r k l)
+  record-stays r k l h = slot-after r k l ∙ (ap encode h ∙ slot-number s t r k l)
 
   pub rest-stays : isClear (deedOf q) ≡ false → (r : Frame) (k : ℕ) → k < slots r
       → getD (recordsOf r (tablesAfter s q t)) k 0 / 256 ≡ getD (recordsOf r t) k 0 / 256
@@ -194,7 +197,7 @@ module _ (s : Shape) (q : Step) (t : Tables) (fit : lengthsFit t ≡ true) where
       ap (λ (n : ℕ). n / 256) (slot-after r k l)
       ∙ (rest-back (performed s (deedOf q) i (cellOf s t i))
       ∙ (rest-kept s i (cellOf s t i) (deedOf q) c
-      ∙ (sym (rest-back (cellOf s t i)) ∙ ap (λ (n : ℕ). n / 256) (slot-before r k l))))
+      ∙ (sym (rest-back (cellOf s t i)) ∙ ap (λ (n : ℕ). n / 256) (slot-number s t r k l))))
 
 -- ON WELL-FORMED TABLES
 module _ (s : Shape) (q : Step) (t : Tables) (well : wellFormed s t ≡ true) where

@@ -5,6 +5,7 @@
 --   private-deleted        the private steps of a run can be deleted
 --   step-leaves-secure     no Non-secure step changes the number of a Secure or a missing interrupt ..
 --   run-leaves-secure      .. nor do those of a run: it ends as the other steps alone make it
+--   alone-leaves-secure    .. and on any tables where the run has no other steps
 --   same-heard             the answers of both runs are the same list
 --   same-record, same-bytes, in-bytes   what is said of interrupts is said of the lent numbers
 --   separate, runs-indistinct, deleted-indistinct   the same from tables that the Non-secure side cannot tell apart
@@ -12,6 +13,7 @@ use mathlib.Core.Path.{_≡_, refl, sym, ap, ap₂, _∙_}
 use mathlib.Core.Bool.{Bool, true, false, _&&_}
 use mathlib.Core.List.{List, [], _∷_}
 use Prim.Native.Nat.{ℕ, _<_}
+use native.Mathlib.Omega.{arith}
 use lib.ListN.{getD}
 use Rattle.lists.proofs.Bools.{and-left, and-right}
 use Rattle.types.specs.declared.Frame.{Frame}
@@ -21,9 +23,9 @@ use Rattle.meaning.specs.Cell.{decode, encode, nonSecure, owned}
 use Rattle.meaning.specs.Layout.{Tables, recordsOf, slots, interruptAt, wellFormed, implemented, cellOf}
 use Rattle.meaning.specs.Rule.{Step}
 use Rattle.meaning.specs.Step.{stepped}
-use Rattle.meaning.proofs.Bytes.{encode-decode}
-use Rattle.meaning.proofs.After.{slot-cell, answer-well, well-kept, cells-stepped}
+use Rattle.meaning.proofs.After.{slot-number, answer-well, well-kept, cells-stepped, well-lengths, cell-after}
 use Rattle.promises.specs.Records.{Kept}
+use Rattle.promises.proofs.Refused.{by-shape}
 use Rattle.promises.proofs.Records.{slot-kept}
 use Rattle.separation.specs.Runs.{Item, public, common, private, withoutPrivate, publics, others, Plain, heard, sights, ended}
 use Rattle.separation.specs.Steps.{NonSecureStep, PrivateStep, CommonStep}
@@ -57,13 +59,8 @@ module _ (s : Shape) (t u : Tables) (h : Indistinct s t u) where
   -- the records of what is owned are the same numbers
   pub same-record : (r : Frame) (k : ℕ) → k < slots r → owned (cellOf s t (interruptAt r k)) ≡ true
       → getD (recordsOf r t) k 0 ≡ getD (recordsOf r u) k 0
-  same-record r k l o = sym (number t) ∙ (ap encode (same-cell (cellOf s t i) (cellOf s u i) (h .same i) o) ∙ number u)
-    where
-      i : Interrupt
-      i = interruptAt r k
-
-      number : (v : Tables) → encode (cellOf s v i) ≡ getD (recordsOf r v) k 0
-      number v = ap encode (slot-cell s v r k l) ∙ encode-decode (implemented s v i) (getD (recordsOf r v) k 0)
+  same-record r k l o =
+      sym (slot-number s t r k l) ∙ (ap encode (same-cell _ _ (h .same (interruptAt r k)) o) ∙ slot-number s u r k l)
 
   pub same-bytes : SameBytes s t u
   same-bytes = record { owners = λ r k l. same-owned _ _ (h .same (interruptAt r k)); bytes = same-record }
@@ -148,10 +145,22 @@ module _ (s : Shape) (i : Interrupt) where
 pub run-leaves-secure : (s : Shape) (t : Tables) → wellFormed s t ≡ true → (r : List (Item Step)) → Run s t r → (f : Frame) (k : ℕ)
     → k < slots f → owned (cellOf s t (interruptAt f k)) ≡ false
     → getD (recordsOf f (ended (controller s) t r)) k 0 ≡ encode (acted s (interruptAt f k) (others r) (cellOf s t (interruptAt f k)))
-run-leaves-secure s t well r run f k l o = sym (number (ended (controller s) t r)) ∙ ap encode (secure-cell s i r t well run o)
+run-leaves-secure s t well r run f k l o =
+    sym (slot-number s (ended (controller s) t r) f k l) ∙ ap encode (secure-cell s (interruptAt f k) r t well run o)
+
+-- a run of Non-secure steps alone leaves it on any tables, well-formed or not
+pub alone-leaves-secure : (s : Shape) (t : Tables) (r : List (Item Step)) → others r ≡ [] → Run s t r → (f : Frame) (k : ℕ) → k < slots f
+    → owned (cellOf s t (interruptAt f k)) ≡ false → getD (recordsOf f (ended (controller s) t r)) k 0 ≡ getD (recordsOf f t) k 0
+alone-leaves-secure s t [] e n f k l o = refl
+alone-leaves-secure s t (common q ∷ r) e n f k l o = absurd (let z : _≡_ {A = ℕ} 0 1 = cc in omega arith)
+alone-leaves-secure s t (private q ∷ r) e n f k l o = absurd (let z : _≡_ {A = ℕ} 0 1 = cc in omega arith)
+alone-leaves-secure s t (public q ∷ r) e n f k l o =
+    alone-leaves-secure s ((stepped s q t) .tables) r e (n .1) f k l (ap owned cell ∙ o) ∙ step-leaves-secure s t q (n .0) f k l o
   where
     i : Interrupt
     i = interruptAt f k
 
-    number : (v : Tables) → encode (cellOf s v i) ≡ getD (recordsOf f v) k 0
-    number v = ap encode (slot-cell s v f k l) ∙ encode-decode (implemented s v i) (getD (recordsOf f v) k 0)
+    cell : cellOf s ((stepped s q t) .tables) i ≡ cellOf s t i
+    cell =
+        by-shape s q t (λ (u : Tables). cellOf s u i ≡ cellOf s t i) refl
+        (λ e. cell-after s q t (well-lengths s t e) i ∙ unowned-left s (cellOf s t) q (n .0) i o (cellOf s t i) o)
