@@ -1,4 +1,6 @@
 // What the numbers of a request stand for, and the number of an answer.
+#![tactic(auto)]
+
 ghost use Rattle.std.specs.Prelude.{◌≡◌, ◌&&◌};
 ghost use Rattle.abi_numbers.specs.Numbers.{one_or_two, zero_or_one, frame_of, side_of, way_of, shape_of, request_of};
 ghost use Rattle.abi_numbers.specs.Code.{code_of, shut};

@@ -1,4 +1,6 @@
 // An answer as document 01 numbers it: status 0 for done, else the refusal's number; a refusal's value is 0.
+#![tactic(auto)]
+
 ghost use Rattle.std.specs.Prelude.{◌≡◌};
 ghost use Rattle.meaning.specs.Answers.{number, status_of, value_of};
 

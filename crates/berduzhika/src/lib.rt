@@ -7,6 +7,8 @@
 //   dist_presence    63 presence words                          lent for reading
 //   redist_presence  3 presence words                           lent for reading
 //   lines espi eppi mbis   the shape: document 01's numbers, mbis 0 or 1
+#![tactic(auto)]
+
 ghost use Rattle.std.specs.Prelude.{◌≡◌};
 ghost use Rattle.meaning.specs.Layout.{lent};
 ghost use Rattle.berduzhika.specs.Returned.{access_returns, wire_returns, activate_returns, deactivate_returns, reset_returns};

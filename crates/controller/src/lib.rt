@@ -6,6 +6,8 @@
 //   redist           96 record bytes of the Redistributor       lent for reading and writing
 //   dist_presence    63 presence words                          lent for reading
 //   redist_presence  3 presence words                           lent for reading
+#![tactic(auto)]
+
 ghost use Rattle.std.specs.Prelude.{◌≡◌};
 ghost use Rattle.types.specs.declared.Refusal.{Refusal as Why};
 ghost use Rattle.types.specs.declared.Decoded.TheVariants as decoded;

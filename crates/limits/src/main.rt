@@ -1,5 +1,7 @@
 // Document 01's "Limits" line and more edges, and the cases of document 02's requests, run on the compiled controller. Each line says
 // the request and its answer. The expected output (stdout) is written from the two documents and not from this program.
+#![tactic(auto)]
+
 use types::Side;
 
 mod asked;

@@ -1,5 +1,7 @@
 // What a record says of its interrupt, and what a read shows of it. `r` is the record; `soft`: the interrupt is an SGI, which is all that
 // the rules ask of its name, so each contract holds of every interrupt i of that sort; one with `p`, whether or not i is implemented.
+#![tactic(auto)]
+
 ghost use Rattle.std.specs.Prelude.{◌≡◌, Bool};
 ghost use Rattle.lists.specs.Word.{digit};
 ghost use Rattle.types.specs.declared.Shape.{Shape};

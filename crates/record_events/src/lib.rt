@@ -1,4 +1,6 @@
 // What the events answer of a record and do to it: wire, activate, deactivate. `soft`: the interrupt is an SGI.
+#![tactic(auto)]
+
 ghost use Rattle.std.specs.Prelude.{◌≡◌, Bool, cond};
 ghost use Rattle.types.specs.declared.Shape.{Shape};
 ghost use Rattle.meaning.specs.Interrupt.{Interrupt, sgi};

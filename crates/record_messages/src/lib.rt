@@ -1,4 +1,6 @@
 // What the message registers do to the record that a message names: an SPI's or extended SPI's, so no SGI's.
+#![tactic(auto)]
+
 ghost use Rattle.std.specs.Prelude.{◌≡◌, Bool, false};
 ghost use Rattle.types.specs.declared.Shape.{Shape};
 ghost use Rattle.meaning.specs.Interrupt.{Interrupt, sgi};

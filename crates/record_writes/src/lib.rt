@@ -1,4 +1,6 @@
 // What a register write does to a record. `d` is the digit written for it; `soft`: the interrupt is an SGI.
+#![tactic(auto)]
+
 ghost use Rattle.std.specs.Prelude.{◌≡◌, Bool};
 ghost use Rattle.types.specs.declared.Shape.{Shape};
 ghost use Rattle.meaning.specs.Interrupt.{Interrupt, sgi};

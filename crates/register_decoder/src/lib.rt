@@ -1,4 +1,6 @@
 // Where an access goes: the first of refusals 2 to 6 that applies, or a register word. And what such a word stands for.
+#![tactic(auto)]
+
 ghost use Rattle.std.specs.Prelude.{◌≡◌, ◌<◌, ◌≤◌};
 ghost use Rattle.meaning.specs.Registers.{wide_enough, if_wide, place_of, target_of};
 ghost use Rattle.register_decoder.specs.Digits.{number_of, origin, count_of, digits_from};

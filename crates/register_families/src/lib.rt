@@ -6,6 +6,8 @@
 //   DIGIT_BITS     how many bits of a word an interrupt has
 //   PER_WORD       how many interrupts a word has
 //   ROW            all of these, and what the digits are
+#![tactic(auto)]
+
 ghost use Rattle.std.specs.Prelude.{◌≡◌};
 ghost use Rattle.meaning.specs.Registers.{row_of};
 

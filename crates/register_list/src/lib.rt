@@ -1,4 +1,6 @@
 // The listed registers: the place of the word at an offset of a frame, or refusal 5.
+#![tactic(auto)]
+
 ghost use Rattle.std.specs.Prelude.{◌≡◌, ◌%◌};
 ghost use Rattle.types.specs.declared.Frame.TheVariants.{Dist, Redist};
 ghost use Rattle.meaning.specs.Registers.{families, listed};
@@ -12,7 +14,7 @@ use register_map::code_at;
 use types::{Decoded, Family, Frame, Message, Place, Refusal};
 
 // What stands at an offset.
-#[derive(Drop)]
+#[derive(Clone, Copy)]
 enum Entry {
     Register(Family),
     Extended(Family),

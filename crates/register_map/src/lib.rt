@@ -1,6 +1,8 @@
 // The register map of the first 4 KiB of the Distributor frame: an entry for each 4-byte word, its family's code, or 0 for none.
 //   1 IGROUPR    2 ISENABLER   3 ICENABLER   4 ISPENDR     5 ICPENDR     6 ISACTIVER   7 ICACTIVER   8 IGRPMODR   9 ICFGR
 //  10 TYPER     11 SETSPI_NSR 12 CLRSPI_NSR 13 SETSPI_SR  14 CLRSPI_SR
+#![tactic(auto)]
+
 ghost use Rattle.std.specs.Prelude.{◌≡◌, ◌<◌};
 ghost use Rattle.register_map.specs.Map.{code_at};
 

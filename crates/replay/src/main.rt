@@ -3,6 +3,8 @@
 // call moved.
 // A failed read or write ends it at once, with a word on standard error and without bad= or end=, so that an output that was cut
 // short is not taken for a whole one.
+#![tactic(auto)]
+
 ghost use Rattle.std.specs.Prelude.{◌≤◌, length};
 
 use libc::{STDERR_FILENO, STDIN_FILENO, STDOUT_FILENO};
@@ -11,7 +13,7 @@ use replay_stream::piece::feed;
 use replay_tables::{dist_records, redist_records};
 
 // What a turn gives: the state after it, whether there may be more to read, and whether a read or a write failed.
-#[derive(Drop)]
+#[derive(Clone, Copy)]
 struct After {
     state: State,
     more: bool,

@@ -1,11 +1,13 @@
 // The lines of a bench replay: which key stands on which line, and what a line says.
+#![tactic(auto)]
+
 ghost use Rattle.std.specs.Prelude.{◌≡◌};
 ghost use Rattle.replay_keys.specs.Keys.{rank as Keys·rank, after, at_most, number_at, one_of, field_of};
 
 use text::Number;
 use text::read::{begins, number, same};
 
-#[derive(Drop)]
+#[derive(Clone, Copy)]
 pub enum Key {
     Lines,
     Espi,

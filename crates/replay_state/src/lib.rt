@@ -1,4 +1,6 @@
 // What a replay keeps from byte to byte, from its start to the text that ends it.
+#![tactic(auto)]
+
 ghost use Rattle.std.specs.Prelude.{◌≡◌, take};
 ghost use Rattle.replay_meaning.specs.Replay.{ending};
 ghost use Rattle.replay_state.specs.Ended.{EndWritten};
@@ -11,7 +13,7 @@ use replay_steps::answer::put_ending;
 // A replay between two bytes. It has come as far as `at` says by its whole lines. The bytes of the line that is not whole yet are the
 // first `len` of the buffer that the caller lends for it, of at least 18 bytes. Its output since the last that was handed on is the
 // first `end` bytes of the output's buffer.
-#[derive(Drop)]
+#[derive(Clone, Copy)]
 pub struct State {
     pub at: Progress,
     pub len: usize,
@@ -19,7 +21,7 @@ pub struct State {
 }
 
 // How a replay ends: the first bytes of the output are all that is to be written, or the output had no room for it.
-#[derive(Drop)]
+#[derive(Clone, Copy)]
 pub enum Ended {
     Said(usize),
     Full,

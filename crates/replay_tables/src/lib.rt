@@ -1,4 +1,6 @@
 // The records of a replay's start: all 0.
+#![tactic(auto)]
+
 ghost use Rattle.std.specs.Prelude.{◌≡◌, replicate};
 
 pub fn dist_records() -> [u8; 2012]

@@ -1,6 +1,8 @@
 // Long random runs of the compiled controller: the same steps as the second model's soak takes, and digests of all that comes of
 // them (docs/SOAK.md). Five numbers come on standard input, with anything between them that is no digit: the first table, how many
 // tables, steps a table, after every how many steps the tables are digested, and whether (1) each step is shown.
+#![tactic(auto)]
+
 use counts::{count, print_counts};
 use lent::{digest, fill_presence, fill_records};
 use plan::{Plan, due};

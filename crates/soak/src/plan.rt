@@ -1,7 +1,7 @@
 // What is asked for: five numbers of the input, whatever stands between them.
 use std::num::wrapping_add_u64;
 
-#[derive(Drop)]
+#[derive(Clone, Copy)]
 pub struct Plan {
     pub first: u64,
     pub tables: u64,
@@ -11,7 +11,7 @@ pub struct Plan {
 }
 
 // Looking for number `want` of a text: how many have ended, whether one is under way, and the wanted one's value so far.
-#[derive(Drop)]
+#[derive(Clone, Copy)]
 struct Scan {
     ended: u64,
     inside: bool,

@@ -7,7 +7,7 @@ use types::Answer;
 
 // `x` is the stream after the last step, `number` the steps taken, `changed` how often the tables' digest was not the one before it;
 // `answers` and `tables` are digests of all answers and of the tables' digests, and `last` is the tables' last digest.
-#[derive(Drop)]
+#[derive(Clone, Copy)]
 pub struct Run {
     pub x: u64,
     pub number: u64,

@@ -5,7 +5,7 @@ use crate::table::{Table, home_of, intid_of};
 use types::Shape;
 
 // One step. A field that its kind of step does not use is 0.
-#[derive(Drop)]
+#[derive(Clone, Copy)]
 pub struct Request {
     // The kind of step, by which the steps are counted. 0 to 26: a word of a family, 9 · column + family (column 0 the Distributor's
     // words, 1 its extended ones, 2 the Redistributor's). 27: TYPER. 28 to 31: one of the four message registers. 32: any width at any
@@ -25,7 +25,7 @@ pub struct Request {
 }
 
 // The four numbers of a step.
-#[derive(Drop)]
+#[derive(Clone, Copy)]
 pub struct Numbers {
     a: u64,
     b: u64,

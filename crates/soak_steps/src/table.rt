@@ -3,7 +3,7 @@
 use crate::random::{next, pick, start, word};
 use types::Shape;
 
-#[derive(Drop)]
+#[derive(Clone, Copy)]
 pub struct Table {
     pub shape: Shape,
     home0: u32,

@@ -1,4 +1,6 @@
 // Refusal 1: a table length or a shape number off its limit. The tables are judged by their lengths alone, and so are not lent.
+#![tactic(auto)]
+
 ghost use Rattle.std.specs.Prelude.{◌≡◌, length};
 ghost use Rattle.meaning.specs.Layout.{Tables, shape_fits, lengths_fit, well_formed};
 

@@ -1,4 +1,6 @@
 // Where a bank keeps INTIDs: their slots, and which of them are implemented. A bank is the records and the presence words of one frame.
+#![tactic(auto)]
+
 ghost use Rattle.std.specs.Prelude.{◌≡◌, true, ◌≤◌, ◌<◌, min, length};
 ghost use Rattle.meaning.specs.Layout.{shape_fits, presence_words};
 ghost use Rattle.table_spans.specs.Span.{Inside, range_of, span_at, span_of};
@@ -6,7 +8,7 @@ ghost use Rattle.table_spans.specs.Span.{Inside, range_of, span_at, span_of};
 use types::{Frame, Shape};
 
 // INTIDs from `low` up to `high` that a bank keeps one after another, from slot `slot` and presence word `word` on.
-#[derive(Drop)]
+#[derive(Clone, Copy)]
 struct Range {
     pub low: u32,
     pub high: u32,
@@ -15,7 +17,7 @@ struct Range {
 }
 
 // Slots from `start` up to `end`, and (bit x) whether slot start + x holds an implemented interrupt.
-#[derive(Drop)]
+#[derive(Clone, Copy)]
 pub struct Span {
     pub start: usize,
     pub end: usize,

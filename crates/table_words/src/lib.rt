@@ -1,6 +1,8 @@
 // The loops over the records behind one register word: 28 or 32 of them, 12 or 16 behind an ICFGR word.
 // The part of the table that holds them is lent; nothing is copied, and no record outside the part is looked at. A read visits every
 // record, and so does a write where a 0 acts; a set or clear write visits those of its ones.
+#![tactic(auto)]
+
 ghost use Rattle.std.specs.Prelude.{◌≡◌, ℕ, ◌+◌, ◌*◌, ◌%◌, ◌^◌, length};
 ghost use Rattle.types.specs.declared.Shape.{Shape};
 ghost use Rattle.meaning.specs.Interrupt.{Interrupt};
@@ -13,7 +15,7 @@ use register_families::row_of;
 use types::{Family, Kind, Row, Side, Switch};
 
 // Who accesses which family, the INTID of the part's first record, and (bit x) whether record x is implemented.
-#[derive(Drop)]
+#[derive(Clone, Copy)]
 pub struct Word {
     pub side: Side,
     pub family: Family,

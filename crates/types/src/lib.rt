@@ -1,22 +1,24 @@
 // The words that every layer shares: who asks, where, and what is answered. No rule stands here.
+#![tactic(auto)]
+
 ghost use Rattle.std.specs.Prelude.{◌≡◌};
 
 // The two frames that a monitor traps: the Distributor (Dist_base) and the Redistributor (SGI_base).
-#[derive(Drop)]
+#[derive(Clone, Copy)]
 pub enum Frame {
     Dist,
     Redist,
 }
 
 // The Security state that an access or an activation comes from.
-#[derive(Drop)]
+#[derive(Clone, Copy)]
 pub enum Side {
     Secure,
     NonSecure,
 }
 
 // What is built: SPI lines, words of extended SPIs, words of extended PPIs, message-based SPIs or none.
-#[derive(Drop)]
+#[derive(Clone, Copy)]
 pub struct Shape {
     pub lines: u32,
     pub espi: u32,
@@ -39,14 +41,14 @@ impl Shape {
 }
 
 // Reads or writes.
-#[derive(Drop)]
+#[derive(Clone, Copy)]
 pub enum Way {
     Read,
     Write,
 }
 
 // One trapped access. A read carries a value too, which it ignores.
-#[derive(Drop)]
+#[derive(Clone, Copy)]
 pub struct Access {
     pub frame: Frame,
     pub side: Side,
@@ -87,7 +89,7 @@ impl Access {
 }
 
 // The bits of an interrupt's record.
-#[derive(Drop)]
+#[derive(Clone, Copy)]
 pub enum Bit {
     Enabled,
     Latch,
@@ -100,7 +102,7 @@ pub enum Bit {
 }
 
 // The register families that hold a digit for each interrupt.
-#[derive(Drop)]
+#[derive(Clone, Copy)]
 pub enum Family {
     Igroupr,
     Isenabler,
@@ -114,7 +116,7 @@ pub enum Family {
 }
 
 // The four message registers of the Distributor.
-#[derive(Drop)]
+#[derive(Clone, Copy)]
 pub enum Message {
     SetspiNsr,
     ClrspiNsr,
@@ -123,7 +125,7 @@ pub enum Message {
 }
 
 // A listed register word.
-#[derive(Drop)]
+#[derive(Clone, Copy)]
 pub enum Place {
     // Word n of a family: INTIDs from 0 up.
     Word(Frame, Family, u32),
@@ -134,7 +136,7 @@ pub enum Place {
 }
 
 // Why a step is refused. The numbers that document 01 gives them are `number`'s, in the meaning.
-#[derive(Drop)]
+#[derive(Clone, Copy)]
 pub enum Refusal {
     Shape,
     Width,
@@ -148,21 +150,21 @@ pub enum Refusal {
 }
 
 // Where an access goes, or why it goes nowhere.
-#[derive(Drop)]
+#[derive(Clone, Copy)]
 pub enum Decoded {
     At(Place),
     Refused(Refusal),
 }
 
 // What a step is answered: done with a value (0 for a write or an event), or refused.
-#[derive(Drop)]
+#[derive(Clone, Copy)]
 pub enum Answer {
     Done(u32),
     Refused(Refusal),
 }
 
 // A state of an interrupt that a written 1 switches on or off.
-#[derive(Drop)]
+#[derive(Clone, Copy)]
 pub enum Switch {
     Enable,
     Pending,
@@ -170,14 +172,14 @@ pub enum Switch {
 }
 
 // What only the Secure side reads and writes.
-#[derive(Drop)]
+#[derive(Clone, Copy)]
 pub enum Guard {
     Group,
     Modifier,
 }
 
 // What the digits of a family are.
-#[derive(Drop)]
+#[derive(Clone, Copy)]
 pub enum Kind {
     // A written 1 switches the state on (true) or off, a 0 does nothing.
     Switched(bool, Switch),
@@ -188,7 +190,7 @@ pub enum Kind {
 }
 
 // A family's row of document 01's table.
-#[derive(Drop)]
+#[derive(Clone, Copy)]
 pub struct Row {
     // What its digits are, how many bits each has, and how many a word has.
     pub kind: Kind,
@@ -204,7 +206,7 @@ pub struct Row {
 }
 
 // The INTIDs that a register word has a digit of, interrupts of its frame: digit x is INTID first + x.
-#[derive(Drop)]
+#[derive(Clone, Copy)]
 pub struct Window {
     pub frame: Frame,
     pub family: Family,
@@ -213,7 +215,7 @@ pub struct Window {
 }
 
 // What a place stands for: digits of interrupts, TYPER, or a message register.
-#[derive(Drop)]
+#[derive(Clone, Copy)]
 pub enum Target {
     Digits(Window),
     Typer,
@@ -221,7 +223,7 @@ pub enum Target {
 }
 
 // A wire goes to a level; a side activates or deactivates.
-#[derive(Drop)]
+#[derive(Clone, Copy)]
 pub enum Event {
     Wire(bool),
     Activate(Side),
