@@ -10,7 +10,7 @@ use Prim.Native.Nat.{ℕ, ◌+◌, ◌-◌, ◌≤◌, ◌<◌}
 use native.Mathlib.Omega.{arith}
 use native.Mathlib.Decide.{dec_lt}
 use lib.ListN.{length, get_or, drop, length-take, length-drop}
-use lib.Seq.{get_or_take, get_or-drop}
+use lib.Seq.{get_or-take, get_or-drop}
 use Rattle.lists.specs.Word.{bit_at, digit_at, row}
 use Rattle.lists.proofs.Maps.{map_from_part}
 use Rattle.lists.proofs.Rows.{row_same, row_cut}
@@ -152,7 +152,7 @@ module _ (s : Shape) (t : Tables) (fit : lengths_fit t ≡ true) (side : Side) (
   unfolding shown_at
   shown_in x l =
       ap (λ (n : ℕ). visible s side kind (at x) (decode (bit_at p.implemented x) n))
-      (get_or_take (p.end - p.start) (drop p.start xs) x 0 l ∙ get_or-drop p.start xs x 0)
+      (get_or-take (p.end - p.start) (drop p.start xs) x 0 l ∙ get_or-drop p.start xs x 0)
       ∙ ap (visible s side kind (at x)) (sym (cell_in_lem x l))
 
   unseen : (x : ℕ) → p.end - p.start ≤ x → x < w.count → shown x ≡ 0

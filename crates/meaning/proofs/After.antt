@@ -6,7 +6,7 @@
 --   lengths_kept, well_kept    a step leaves the lengths, and so tables that are well-formed
 --   answer_well, tables_well   on well-formed tables, the answer and the tables after
 use mathlib.Core.Path.{◌≡◌, refl, sym, ap, ◌∙◌}
-use mathlib.Core.Bool.{Bool, true, false, ◌&&◌, and_false}
+use mathlib.Core.Bool.{Bool, true, false, ◌&&◌, and-false}
 use mathlib.Core.List.{List}
 use Prim.Native.Nat.{ℕ, ◌/◌, ◌%◌, ◌<◌, ◌≤◌}
 use native.Mathlib.Omega.{arith}
@@ -148,7 +148,7 @@ module _ (s : Shape) (q : Step) (t : Tables) (fit : lengths_fit t ≡ true) wher
   nowhere_missing : (i : Interrupt) → home_of i ≡ nowhere → (cell_of s t i).implemented ≡ false
   unfolding implemented
   nowhere_missing i h =
-      cell_present s t i ∙ (ap (λ (x : Home). in_range s i && present_at t (intid i % 32) x) h ∙ and_false (in_range s i))
+      cell_present s t i ∙ (ap (λ (x : Home). in_range s i && present_at t (intid i % 32) x) h ∙ and-false (in_range s i))
 
   -- the column at the home of an interrupt
   record_after : (i : Interrupt) → record_at (tables_after s q t) (home_of i) ≡ encode (after i)

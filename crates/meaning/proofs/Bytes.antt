@@ -60,7 +60,7 @@ bit_back b c =
     let h5 = digit_small c.edge in
     let h6 = digit_small c.group in
     let h7 = digit_small c.modifier in
-    elim b [
+    elim b as (λ (b : Bit). encode c / value b % 2 ≡ digit (get b c)) [
       | Enabled ↦ omega arith
       | Latch ↦ omega arith
       | Wire ↦ omega arith

@@ -2,7 +2,7 @@
 --   all_present_lem       tables that hold records have every interrupt of the bench, with its record
 --   cases_on_tables   each case, on any tables that hold its start
 use mathlib.Core.Path.{◌≡◌, refl, sym, ap, ap₂, ◌∙◌, subst}
-use mathlib.Core.Bool.{Bool, false, ◌&&◌, and_true}
+use mathlib.Core.Bool.{Bool, false, ◌&&◌, and-true}
 use mathlib.Core.List.{List, [], ◌∷◌}
 use Prim.Native.Nat.{ℕ, ◌+◌, ◌-◌, ◌/◌, ◌%◌, ◌≤◌, ◌<◌}
 use native.Mathlib.Omega.{arith}
@@ -39,7 +39,7 @@ module _ (r : Records) (t : Tables) (h : Holding r t) where
   -- its bit is one of its table's; one that is kept nowhere is out of range
   bit_set : (i : Interrupt) (f : Frame) (k w : ℕ) → w < presence_words f → Here i (slot f k w)
   bit_set i f k w l =
-      ap (λ (b : Bool). in_range bench i && b) (h.present_all f w (intid i % 32) l (omega arith)) ∙ and_true (in_range bench i)
+      ap (λ (b : Bool). in_range bench i && b) (h.present_all f w (intid i % 32) l (omega arith)) ∙ and-true (in_range bench i)
 
   here : (i : Interrupt) → Here i (home_of i)
   unfolding in_range

@@ -1,6 +1,6 @@
 -- What a line does, and what is written at the input's end, case by case.
 use mathlib.Core.Path.{◌≡◌, ap, ◌∙◌}
-use mathlib.Core.Bool.{true, false, cond, ◌&&◌, and_false}
+use mathlib.Core.Bool.{true, false, cond, ◌&&◌, and-false}
 use mathlib.Core.List.{List, []}
 use Prim.Native.Nat.{ℕ, ◌<◌, ◌≤◌}
 use lib.Dec.{eqb}
@@ -49,7 +49,7 @@ module _ (p : Progress) (rest : List ℕ) where
   going h = cond_false p.over [] _ h
 
   pub ending_rest : p.over ≡ false → (length rest ≡ 0 → ⊥) → ending p rest ≡ bad_text p
-  ending_rest h k = going h ∙ rw (ne_eqb (length rest) 0 k, and_false (is_first p.key))
+  ending_rest h k = going h ∙ rw (ne_eqb (length rest) 0 k, and-false (is_first p.key))
 
   pub ending_inside : p.over ≡ false → (rank p.key ≡ 4 → ⊥) → ending p rest ≡ bad_text p
   ending_inside h k = going h ∙ rw (ne_eqb (rank p.key) 4 k)

@@ -4,7 +4,7 @@
 --   a_read, typer_write, res0_write, sgi_fields   reads; writes to TYPER, to a res0 word, to the SGIs' fields
 --   no_messages, missing_message, no_spi   messages without mbis; those that name a missing interrupt, or a number that is no SPI's
 use mathlib.Core.Path.{◌≡◌, refl, ap, ◌∙◌}
-use mathlib.Core.Bool.{Bool, true, false, ◌&&◌, ◌||◌, and_false}
+use mathlib.Core.Bool.{Bool, true, false, ◌&&◌, ◌||◌, and-false}
 use Prim.Native.Nat.{ℕ, ◌*◌, ◌%◌, ◌<◌}
 use native.Mathlib.Omega.{arith}
 use lib.Dec.{eqb}
@@ -123,4 +123,4 @@ unfolding implemented
 no_spi s t a g e h =
     let i = shared (written_value a % 8192) in
     missing_message s (cell_of s t) a g e
-    (cell_present s t i ∙ (ap (λ (z : Home). in_range s i && present_at t (intid i % 32) z) h ∙ and_false (in_range s i)))
+    (cell_present s t i ∙ (ap (λ (z : Home). in_range s i && present_at t (intid i % 32) z) h ∙ and-false (in_range s i)))

@@ -2,7 +2,7 @@
 --   limits    the numbers of a shape that fits
 --   ranged    what is known of the range of m
 use mathlib.Core.Path.{◌≡◌, refl, ap, ap₂}
-use mathlib.Core.Bool.{Bool, true, false, cond, ◌&&◌, ◌||◌, or_true}
+use mathlib.Core.Bool.{Bool, true, false, cond, ◌&&◌, ◌||◌, or-true}
 use Prim.Native.Nat.{ℕ, ◌+◌, ◌*◌, ◌-◌, ◌/◌, ◌%◌, ◌≤◌, ◌<◌, min}
 use native.Mathlib.Omega.{arith}
 use lib.Dec.{ltb, leb}
@@ -78,7 +78,7 @@ module _ (s : Shape) (m : ℕ) where
   unfolding in_range home_of
   espi a b l =
       record {
-        has = rw (between_in 4096 (4096 + 32 * s.espi) m a b) (or_true (between 32 (min 1020 (32 * s.lines + 32)) m));
+        has = rw (between_in 4096 (4096 + 32 * s.espi) m a b) (or-true (between 32 (min 1020 (32 * s.lines + 32)) m));
         home = rw (between_above 32 1020 m (omega arith) (omega arith), between_in 4096 5120 m a (omega arith)) refl;
       }
 
@@ -97,7 +97,7 @@ module _ (s : Shape) (m : ℕ) where
   eppi a b l =
       let z : (m - 1024) / 32 ≡ 1 + (m - 1056) / 32 = omega arith in
       record {
-        has = rw (between_in 1056 (1056 + 32 * s.eppi) m a b) (or_true (ltb m 32));
+        has = rw (between_in 1056 (1056 + 32 * s.eppi) m a b) (or-true (ltb m 32));
         home = rw (le-ltb m 32 (omega arith), between_in 1056 1120 m a (omega arith)) (ap (slot Redist (32 + (m - 1056))) z);
       }
 

@@ -4,36 +4,36 @@ use borrow.Author.Rules.{rules}
 use Rattle.abi_numbers.proofs.code_of.Statement.{statement}
 use Rattle.abi_numbers.proofs.code_of.Tie as tie
 
-status-of-requires : tie.Need-status-of-requires
-status-of-requires c κs = search rules
+status_of-requires : tie.Need-status_of-requires
+status_of-requires c κs = search rules
 
-cast-result : tie.Need-overflow-cast-result
-cast-result c = search rules
+overflow_cast-result : tie.Need-overflow_cast-result
+overflow_cast-result c = search rules
 
-mul-result : tie.Need-overflow-mul-result
-mul-result c = search rules
+overflow_mul-result : tie.Need-overflow_mul-result
+overflow_mul-result c = search rules
 
-value-of-requires : tie.Need-value-of-requires
-value-of-requires c κs = search rules
+value_of-requires : tie.Need-value_of-requires
+value_of-requires c κs = search rules
 
-cast-result-2 : tie.Need-overflow-cast-result-2
-cast-result-2 c = search rules
+overflow_cast-result-2 : tie.Need-overflow_cast-result-2
+overflow_cast-result-2 c = search rules
 
-add-result : tie.Need-overflow-add-result
-add-result c = search rules
+overflow_add-result : tie.Need-overflow_add-result
+overflow_add-result c = search rules
 
 returns : tie.Need-returns
 unfolding code_of
-returns c = rw (c.before.status-of.ensures, c.value_of_lem.ensures)
+returns c = rw (c.before.status_of.ensures, c.value_of_lem.ensures)
 
-pub code-of-spec : {M : Type 1} → statement M
-code-of-spec =
+pub code_of_spec : {M : Type 1} → statement M
+code_of_spec =
     tie.close
     (tie.spec
-    status-of-requires
-    cast-result
-    mul-result
-    value-of-requires
-    cast-result-2
-    add-result
+    status_of-requires
+    overflow_cast-result
+    overflow_mul-result
+    value_of-requires
+    overflow_cast-result-2
+    overflow_add-result
     returns)

@@ -5,14 +5,14 @@ use borrow.Author.Rules.{rules}
 use Rattle.abi_numbers.proofs.request_of.Statement.{statement}
 use Rattle.abi_numbers.proofs.request_of.Tie as tie
 
-frame-of-requires : tie.Need-frame-of-requires
-frame-of-requires c κs = search rules
+frame_of-requires : tie.Need-frame_of-requires
+frame_of-requires c κs = search rules
 
-side-of-requires : tie.Need-side-of-requires
-side-of-requires c κs = search rules
+side_of-requires : tie.Need-side_of-requires
+side_of-requires c κs = search rules
 
-way-of-requires : tie.Need-way-of-requires
-way-of-requires c κs = search rules
+way_of-requires : tie.Need-way_of-requires
+way_of-requires c κs = search rules
 
 new-requires : tie.Need-new-requires
 new-requires c κs = search rules
@@ -24,13 +24,13 @@ returns c =
     c.new.ensures
     ∙ (λ z.
     record {
-      frame = c.before.before.before.frame-of.ensures z;
-      side = c.before.before.side-of.ensures z;
+      frame = c.before.before.before.frame_of.ensures z;
+      side = c.before.before.side_of.ensures z;
       way = c.before.Way-of.ensures z;
       width = a.width;
       offset = a.offset;
       value = a.value;
     })
 
-pub request-of-spec : {M : Type 1} → statement M
-request-of-spec = tie.close (tie.spec frame-of-requires side-of-requires way-of-requires new-requires returns)
+pub request_of_spec : {M : Type 1} → statement M
+request_of_spec = tie.close (tie.spec frame_of-requires side_of-requires way_of-requires new-requires returns)

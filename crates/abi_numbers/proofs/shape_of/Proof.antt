@@ -11,5 +11,5 @@ returns : tie.Need-returns
 unfolding shape_of
 returns c = c.new.ensures
 
-pub shape-of-spec : {M : Type 1} → statement M
-shape-of-spec = tie.close (tie.spec new-requires returns)
+pub shape_of_spec : {M : Type 1} → statement M
+shape_of_spec = tie.close (tie.spec new-requires returns)

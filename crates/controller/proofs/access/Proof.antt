@@ -2,7 +2,7 @@
 -- Redistributor frame (returns-4).
 use mathlib.Core.Path.{◌≡◌, refl, sym, ap, ◌∙◌}
 use mathlib.Core.Bool.{true}
-use borrow.Author.Tests.{not-true, not_false}
+use borrow.Author.Tests.{not-true, not-false}
 use Rattle.types.specs.declared.Frame.{Frame}
 use Rattle.types.specs.declared.Frame.TheVariants.{Dist, Redist}
 use Rattle.types.specs.declared.Place.{Place}
@@ -32,7 +32,7 @@ start c = entry c.before.before
 well : (c : tie.After-place-of) → well_formed (start c).args.shape (T (start c)) ≡ true
 well c =
     let w = c.before.before in
-    sym (w.well-formed-2.ensures (T (entry w)) refl refl refl refl) ∙ not_false w.well-formed-2.result c.before.if1.false
+    sym (w.well-formed-2.ensures (T (entry w)) refl refl refl refl) ∙ not-false w.well-formed-2.result c.before.if1.false
 
 -- once the place is known
 abbrev found : tie.After-known-told → tie.After-place-of

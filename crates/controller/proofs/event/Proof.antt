@@ -2,7 +2,7 @@
 -- (returns-3).
 use mathlib.Core.Path.{◌≡◌, refl, sym, ◌∙◌}
 use mathlib.Core.Bool.{true}
-use borrow.Author.Tests.{not-true, not_false}
+use borrow.Author.Tests.{not-true, not-false}
 use Rattle.types.specs.declared.Frame.{Frame}
 use Rattle.types.specs.declared.Frame.TheVariants.{Dist, Redist}
 use Rattle.meaning.specs.Interrupt.{frame_of}
@@ -28,7 +28,7 @@ start c = entry c.before.before
 well : (c : tie.After-frame-of) → well_formed (start c).args.shape (T (start c)) ≡ true
 well c =
     let w = c.before.before in
-    sym (w.well-formed-2.ensures (T (entry w)) refl refl refl refl) ∙ not_false w.well-formed-2.result c.before.if1.false
+    sym (w.well-formed-2.ensures (T (entry w)) refl refl refl refl) ∙ not-false w.well-formed-2.result c.before.if1.false
 
 frame_here : (c : tie.After-frame-of) (f : Frame) → c.frame-of.result ≡ f → frame_of (start c).args.intid ≡ f
 frame_here c f e = sym c.frame-of.ensures ∙ e

@@ -1,7 +1,7 @@
 -- `reset` is `stepped`. Two ways out: refusal 1 (returns), and all records 0 (returns-2).
 use mathlib.Core.Path.{◌≡◌, refl, sym, ◌∙◌}
 use mathlib.Core.Bool.{true}
-use borrow.Author.Tests.{not-true, not_false}
+use borrow.Author.Tests.{not-true, not-false}
 use Rattle.meaning.specs.Layout.{Tables, lent, well_formed}
 use Rattle.meaning.specs.Rule as step
 use Rattle.controller.proofs.Outcomes.{ill, all_cleared}
@@ -27,7 +27,7 @@ first-cleared c = c.before.before.before.before
 well : (c : tie.After-clear) → well_formed (entry (tested c)).args.shape (T (entry (tested c))) ≡ true
 well c =
     let w = tested c in
-    sym (w.well-formed.ensures (T (entry w)) refl refl refl refl) ∙ not_false w.well-formed.result c.before.before.if1.false
+    sym (w.well-formed.ensures (T (entry w)) refl refl refl refl) ∙ not-false w.well-formed.result c.before.before.if1.false
 
 well-formed-requires : tie.Need-well-formed-requires
 well-formed-requires c κs = search rules

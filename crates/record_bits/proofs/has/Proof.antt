@@ -7,5 +7,5 @@ use Rattle.record_bits.proofs.has.Tie as tie
 returns : tie.Need-returns
 returns c i = rw c.value.ensures (masked i c.before.args.b c.before.args.r c.before.ranges.r.fits)
 
-pub has-spec : {M : Type 1} → statement M
-has-spec = tie.close (tie.spec (search rules) returns)
+pub has_spec : {M : Type 1} → statement M
+has_spec = tie.close (tie.spec (search rules) returns)

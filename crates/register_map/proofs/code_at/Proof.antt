@@ -13,5 +13,5 @@ returns : tie.Need-returns
 unfolding code_at code listed in_column in_messages row_of
 returns c = tabulate_at code_at 0 1024 c.args.word c.requires
 
-pub code-at-spec : {M : Type 1} → statement M
-code-at-spec = tie.close (tie.spec array-read-result returns)
+pub code_at_spec : {M : Type 1} → statement M
+code_at_spec = tie.close (tie.spec array-read-result returns)

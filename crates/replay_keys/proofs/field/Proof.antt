@@ -1,48 +1,48 @@
--- `field` is `field_of`. Ten ways out, one for each key in the order of the lines: lines= (returns), espi= (returns-2), eppi= (returns-3),
--- mbis= (returns-4), op= (returns-5), frame= (returns-6), sec= (returns-7), width= (returns-8), offset= (returns-9), value= (returns-10).
+-- `field` is `field_of`. Ten ways out, one for each key in the order of the lines: lines= (returns-in-Lines), espi= (returns-in-Espi), eppi= (returns-in-Eppi),
+-- mbis= (returns-in-Mbis), op= (returns-in-Op), frame= (returns-in-Frame), sec= (returns-in-Sec), width= (returns-in-Width), offset= (returns-in-Offset), value= (returns-in-Value).
 use Rattle.replay_keys.specs.Keys.{field_of}
 use borrow.Author.Rules.{rules}
 use Rattle.replay_keys.proofs.field.Statement.{statement}
 use Rattle.replay_keys.proofs.field.Tie as tie
 
-enum_told : tie.Need-enum-told
-enum_told c = search rules
+enum_told-1 : tie.Need-enum_told-1
+enum_told-1 c = search rules
 
 slice-aggregate-number-at : tie.Need-slice-aggregate-number-at
 slice-aggregate-number-at c = search rules
 
-number-at-requires : tie.Need-number-at-requires
-number-at-requires c κs = search rules
+number_at-requires : tie.Need-number_at-requires
+number_at-requires c κs = search rules
 
-enum-told-2 : tie.Need-enum-told-2
-enum-told-2 c = search rules
+enum_told-in-Espi : tie.Need-enum_told-in-Espi
+enum_told-in-Espi c = search rules
 
 slice-aggregate-number-at-2 : tie.Need-slice-aggregate-number-at-2
 slice-aggregate-number-at-2 c = search rules
 
-number-at-requires-2 : tie.Need-number-at-requires-2
-number-at-requires-2 c κs = search rules
+number_at-requires-in-Espi : tie.Need-number_at-requires-in-Espi
+number_at-requires-in-Espi c κs = search rules
 
-enum-told-3 : tie.Need-enum-told-3
-enum-told-3 c = search rules
+enum_told-in-Eppi : tie.Need-enum_told-in-Eppi
+enum_told-in-Eppi c = search rules
 
 slice-aggregate-number-at-3 : tie.Need-slice-aggregate-number-at-3
 slice-aggregate-number-at-3 c = search rules
 
-number-at-requires-3 : tie.Need-number-at-requires-3
-number-at-requires-3 c κs = search rules
+number_at-requires-in-Eppi : tie.Need-number_at-requires-in-Eppi
+number_at-requires-in-Eppi c κs = search rules
 
-enum-told-4 : tie.Need-enum-told-4
-enum-told-4 c = search rules
+enum_told-in-Mbis : tie.Need-enum_told-in-Mbis
+enum_told-in-Mbis c = search rules
 
 slice-aggregate-number-at-4 : tie.Need-slice-aggregate-number-at-4
 slice-aggregate-number-at-4 c = search rules
 
-number-at-requires-4 : tie.Need-number-at-requires-4
-number-at-requires-4 c κs = search rules
+number_at-requires-in-Mbis : tie.Need-number_at-requires-in-Mbis
+number_at-requires-in-Mbis c κs = search rules
 
-enum-told-5 : tie.Need-enum-told-5
-enum-told-5 c = search rules
+enum_told-in-Op : tie.Need-enum_told-in-Op
+enum_told-in-Op c = search rules
 
 slice-aggregate-one-of : tie.Need-slice-aggregate-one-of
 slice-aggregate-one-of c = search rules
@@ -50,11 +50,11 @@ slice-aggregate-one-of c = search rules
 slice-aggregate-one-of-2 : tie.Need-slice-aggregate-one-of-2
 slice-aggregate-one-of-2 c = search rules
 
-one-of-requires : tie.Need-one-of-requires
-one-of-requires c κs = search rules
+one_of-requires : tie.Need-one_of-requires
+one_of-requires c κs = search rules
 
-enum-told-6 : tie.Need-enum-told-6
-enum-told-6 c = search rules
+enum_told-in-Frame : tie.Need-enum_told-in-Frame
+enum_told-in-Frame c = search rules
 
 slice-aggregate-one-of-3 : tie.Need-slice-aggregate-one-of-3
 slice-aggregate-one-of-3 c = search rules
@@ -62,11 +62,11 @@ slice-aggregate-one-of-3 c = search rules
 slice-aggregate-one-of-4 : tie.Need-slice-aggregate-one-of-4
 slice-aggregate-one-of-4 c = search rules
 
-one-of-requires-2 : tie.Need-one-of-requires-2
-one-of-requires-2 c κs = search rules
+one_of-requires-in-Frame : tie.Need-one_of-requires-in-Frame
+one_of-requires-in-Frame c κs = search rules
 
-enum-told-7 : tie.Need-enum-told-7
-enum-told-7 c = search rules
+enum_told-in-Sec : tie.Need-enum_told-in-Sec
+enum_told-in-Sec c = search rules
 
 slice-aggregate-one-of-5 : tie.Need-slice-aggregate-one-of-5
 slice-aggregate-one-of-5 c = search rules
@@ -74,120 +74,107 @@ slice-aggregate-one-of-5 c = search rules
 slice-aggregate-one-of-6 : tie.Need-slice-aggregate-one-of-6
 slice-aggregate-one-of-6 c = search rules
 
-one-of-requires-3 : tie.Need-one-of-requires-3
-one-of-requires-3 c κs = search rules
+one_of-requires-in-Sec : tie.Need-one_of-requires-in-Sec
+one_of-requires-in-Sec c κs = search rules
 
-enum-told-8 : tie.Need-enum-told-8
-enum-told-8 c = search rules
+enum_told-in-Width : tie.Need-enum_told-in-Width
+enum_told-in-Width c = search rules
 
 slice-aggregate-number-at-5 : tie.Need-slice-aggregate-number-at-5
 slice-aggregate-number-at-5 c = search rules
 
-number-at-requires-5 : tie.Need-number-at-requires-5
-number-at-requires-5 c κs = search rules
+number_at-requires-in-Width : tie.Need-number_at-requires-in-Width
+number_at-requires-in-Width c κs = search rules
 
-enum-told-9 : tie.Need-enum-told-9
-enum-told-9 c = search rules
+enum_told-in-Offset : tie.Need-enum_told-in-Offset
+enum_told-in-Offset c = search rules
 
 slice-aggregate-number-at-6 : tie.Need-slice-aggregate-number-at-6
 slice-aggregate-number-at-6 c = search rules
 
-number-at-requires-6 : tie.Need-number-at-requires-6
-number-at-requires-6 c κs = search rules
+number_at-requires-in-Offset : tie.Need-number_at-requires-in-Offset
+number_at-requires-in-Offset c κs = search rules
 
-enum-told-10 : tie.Need-enum-told-10
-enum-told-10 c = search rules
+enum_told-in-Value : tie.Need-enum_told-in-Value
+enum_told-in-Value c = search rules
 
 slice-aggregate-number-at-7 : tie.Need-slice-aggregate-number-at-7
 slice-aggregate-number-at-7 c = search rules
 
-number-at-requires-7 : tie.Need-number-at-requires-7
-number-at-requires-7 c κs = search rules
+number_at-requires-in-Value : tie.Need-number_at-requires-in-Value
+number_at-requires-in-Value c κs = search rules
 
-returns : tie.Need-returns
+returns-in-Lines : tie.Need-returns-in-Lines
 unfolding field_of
-returns c = rw c.before.before.enum_told.given.1 c.number_at.ensures
+returns-in-Lines c = rw c.before.before.enum_told-1.given.1 c.number_at.ensures
 
-returns-2 : tie.Need-returns-2
+returns-in-Espi : tie.Need-returns-in-Espi
 unfolding field_of
-returns-2 c = rw c.before.before.enum-told2.given.1 c.number-at2.ensures
+returns-in-Espi c = rw c.before.before.enum_told-in-Espi-1.given.1 c.number_at-in-Espi.ensures
 
-returns-3 : tie.Need-returns-3
+returns-in-Eppi : tie.Need-returns-in-Eppi
 unfolding field_of
-returns-3 c = rw c.before.before.enum-told3.given.1 c.number-at3.ensures
+returns-in-Eppi c = rw c.before.before.enum_told-in-Eppi-1.given.1 c.number_at-in-Eppi.ensures
 
-returns-4 : tie.Need-returns-4
+returns-in-Mbis : tie.Need-returns-in-Mbis
 unfolding field_of
-returns-4 c = rw c.before.before.enum-told4.given.1 c.number-at4.ensures
+returns-in-Mbis c = rw c.before.before.enum_told-in-Mbis-1.given.1 c.number_at-in-Mbis.ensures
 
-returns-5 : tie.Need-returns-5
+returns-in-Op : tie.Need-returns-in-Op
 unfolding field_of
-returns-5 c = rw c.before.before.before.enum-told5.given.1 c.one_of_lem.ensures
+returns-in-Op c = rw c.before.before.before.enum_told-in-Op-1.given.1 c.one_of_lem.ensures
 
-returns-6 : tie.Need-returns-6
+returns-in-Frame : tie.Need-returns-in-Frame
 unfolding field_of
-returns-6 c = rw c.before.before.before.enum-told6.given.1 c.one-of2.ensures
+returns-in-Frame c = rw c.before.before.before.enum_told-in-Frame-1.given.1 c.one_of-in-Frame.ensures
 
-returns-7 : tie.Need-returns-7
+returns-in-Sec : tie.Need-returns-in-Sec
 unfolding field_of
-returns-7 c = rw c.before.before.before.enum-told7.given.1 c.one-of3.ensures
+returns-in-Sec c = rw c.before.before.before.enum_told-in-Sec-1.given.1 c.one_of-in-Sec.ensures
 
-returns-8 : tie.Need-returns-8
+returns-in-Width : tie.Need-returns-in-Width
 unfolding field_of
-returns-8 c = rw c.before.before.enum-told8.given.1 c.number-at5.ensures
+returns-in-Width c = rw c.before.before.enum_told-in-Width-1.given.1 c.number_at-in-Width.ensures
 
-returns-9 : tie.Need-returns-9
+returns-in-Offset : tie.Need-returns-in-Offset
 unfolding field_of
-returns-9 c = rw c.before.before.enum-told9.given.1 c.number-at6.ensures
+returns-in-Offset c = rw c.before.before.enum_told-in-Offset-1.given.1 c.number_at-in-Offset.ensures
 
-returns-10 : tie.Need-returns-10
+returns-in-Value : tie.Need-returns-in-Value
 unfolding field_of
-returns-10 c = rw c.before.before.enum-told10.given.1 c.number-at7.ensures
+returns-in-Value c = rw c.before.before.enum_told-in-Value-1.given.1 c.number_at-in-Value.ensures
 
-pub field-spec : {M : Type 1} → statement M
-field-spec =
+pub field_spec : {M : Type 1} → statement M
+field_spec =
     tie.close
     (tie.spec
-    enum_told
-    slice-aggregate-number-at
-    number-at-requires
-    enum-told-2
-    slice-aggregate-number-at-2
-    number-at-requires-2
-    enum-told-3
-    slice-aggregate-number-at-3
-    number-at-requires-3
-    enum-told-4
-    slice-aggregate-number-at-4
-    number-at-requires-4
-    enum-told-5
-    slice-aggregate-one-of
-    slice-aggregate-one-of-2
-    one-of-requires
-    enum-told-6
-    slice-aggregate-one-of-3
-    slice-aggregate-one-of-4
-    one-of-requires-2
-    enum-told-7
-    slice-aggregate-one-of-5
-    slice-aggregate-one-of-6
-    one-of-requires-3
-    enum-told-8
-    slice-aggregate-number-at-5
-    number-at-requires-5
-    enum-told-9
-    slice-aggregate-number-at-6
-    number-at-requires-6
-    enum-told-10
-    slice-aggregate-number-at-7
-    number-at-requires-7
-    returns
-    returns-2
-    returns-3
-    returns-4
-    returns-5
-    returns-6
-    returns-7
-    returns-8
-    returns-9
-    returns-10)
+    enum_told-1
+    number_at-requires
+    enum_told-in-Espi
+    number_at-requires-in-Espi
+    enum_told-in-Eppi
+    number_at-requires-in-Eppi
+    enum_told-in-Mbis
+    number_at-requires-in-Mbis
+    enum_told-in-Op
+    one_of-requires
+    enum_told-in-Frame
+    one_of-requires-in-Frame
+    enum_told-in-Sec
+    one_of-requires-in-Sec
+    enum_told-in-Width
+    number_at-requires-in-Width
+    enum_told-in-Offset
+    number_at-requires-in-Offset
+    enum_told-in-Value
+    number_at-requires-in-Value
+    returns-in-Lines
+    returns-in-Espi
+    returns-in-Eppi
+    returns-in-Mbis
+    returns-in-Op
+    returns-in-Frame
+    returns-in-Sec
+    returns-in-Width
+    returns-in-Offset
+    returns-in-Value)

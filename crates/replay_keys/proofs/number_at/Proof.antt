@@ -1,10 +1,10 @@
--- `number_at` is `number_at`. Two ways out: a line that does not begin with the key (returns), and one that does, whose number is read and
--- held against the limit (returns-2).
+-- `number_at` is `number_at`. Two ways out: a line that does not begin with the key (returns-then-not-begins), and one that does, whose number is read and
+-- held against the limit (returns).
 use mathlib.Core.Path.{◌≡◌, ◌∙◌, ap, sym}
 use mathlib.Core.Bool.{true}
 use mathlib.Core.List.{List}
 use native.Mathlib.Omega.{arith}
-use borrow.Author.Tests.{not-true, not_false}
+use borrow.Author.Tests.{not-true, not-false}
 use Prim.Native.Nat.{ℕ, ◌-◌, ◌≤◌}
 use lib.ListN.{length, take, drop, length-drop}
 use lib.Seq.{take_all}
@@ -22,13 +22,13 @@ abbrev entry : tie.After-begins → tie.Start
 entry c = c.before.before.before
 
 -- where the line begins with the key, once its number is held against the limit
-abbrev found : tie.After-at-most → tie.Else1
+abbrev found : tie.After-at_most → tie.Else-not-begins
 found c = c.before.before.before
 
-begun : (c : tie.Else1) → begins_with (entry c.before).args.key.now (entry c.before).args.line.now ≡ true
-begun c = let b = c.before.begins in sym b.ensures ∙ not_false b.result c.if1.false
+begun : (c : tie.Else-not-begins) → begins_with (entry c.before).args.key.now (entry c.before).args.line.now ≡ true
+begun c = let b = c.before.begins in sym b.ensures ∙ not-false b.result c.if-not-begins.false
 
-inside : (c : tie.Else1) → length (entry c.before).args.key.now ≤ length (entry c.before).args.line.now
+inside : (c : tie.Else-not-begins) → length (entry c.before).args.key.now ≤ length (entry c.before).args.line.now
 inside c = begins_length _ _ (begun c)
 
 -- the part of a line from the end of its key on, taken by its length, is all that comes after the key
@@ -38,43 +38,49 @@ after_key key line = take_all (length line - length key) (drop (length key) line
 begins-requires : tie.Need-begins-requires
 begins-requires c κs = search rules
 
-returns : tie.Need-returns
+returns-then-not-begins : tie.Need-returns-then-not-begins
 unfolding number_at
-returns c = rw (← c.before.begins.ensures, not-true c.before.begins.result c.if1.true)
+returns-then-not-begins c = rw (← c.before.begins.ensures, not-true c.before.begins.result c.if-not-begins.true)
 
-sub_number : tie.Need-overflow-sub-number
-sub_number c = inside c
+slice_bounds-number-count : tie.Need-slice_bounds-number-count
+slice_bounds-number-count c = inside c
 
-part-number-start : tie.Need-slice-bounds-number-start
-part-number-start c = inside c
+slice_bounds-number-start : tie.Need-slice-bounds-number-start
+slice_bounds-number-start c = inside c
 
-part-number-end : tie.Need-slice-bounds-number-end
-part-number-end c = search rules
+slice_bounds-number-end : tie.Need-slice-bounds-number-end
+slice_bounds-number-end c = search rules
 
 number-requires : tie.Need-number-requires
 number-requires c κs = search rules
 
-at-most-requires : tie.Need-at-most-requires
-at-most-requires c κs = search rules
+at_most-requires : tie.Need-at_most-requires
+at_most-requires c κs = search rules
 
-returns-2 : tie.Need-returns-2
+returns : tie.Need-returns
 unfolding number_at
-returns-2 c =
+returns c =
     let a = (entry (found c).before).args in
     rw (begun (found c))
     (c.at_most.ensures
     ∙ ap (λ (n : Number). at_most a.most n)
     (c.before.number.ensures ∙ ap number_in (after_key a.key.now a.line.now)))
 
-pub number-at-spec : {M : Type 1} → statement M
-number-at-spec =
+slice_bounds-number-start : tie.Need-slice_bounds-number-start
+slice_bounds-number-start c = search rules
+
+slice_bounds-number-end : tie.Need-slice_bounds-number-end
+slice_bounds-number-end c = search rules
+
+pub number_at_spec : {M : Type 1} → statement M
+number_at_spec =
     tie.close
     (tie.spec
     begins-requires
-    returns
-    sub_number
-    part-number-start
-    part-number-end
+    returns-then-not-begins
+    slice_bounds-number-count
+    slice_bounds-number-start
+    slice_bounds-number-end
     number-requires
-    at-most-requires
-    returns-2)
+    at_most-requires
+    returns)

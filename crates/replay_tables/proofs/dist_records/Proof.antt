@@ -6,5 +6,5 @@ use Rattle.replay_tables.proofs.dist_records.Tie as tie
 returns : tie.Need-returns
 returns c = refl
 
-pub dist-records-spec : {M : Type 1} → statement M
-dist-records-spec = tie.close (tie.spec returns)
+pub dist_records_spec : {M : Type 1} → statement M
+dist_records_spec = tie.close (tie.spec returns)

@@ -6,5 +6,5 @@ use Rattle.replay_tables.proofs.redist_records.Tie as tie
 returns : tie.Need-returns
 returns c = refl
 
-pub redist-records-spec : {M : Type 1} → statement M
-redist-records-spec = tie.close (tie.spec returns)
+pub redist_records_spec : {M : Type 1} → statement M
+redist_records_spec = tie.close (tie.spec returns)

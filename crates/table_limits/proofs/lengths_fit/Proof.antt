@@ -7,5 +7,5 @@ returns : tie.Need-returns
 unfolding lengths_fit
 returns c = λ t dist redist dist-presence redist-presence. rw (dist, redist, dist-presence, redist-presence)
 
-pub lengths-fit-spec : {M : Type 1} → statement M
-lengths-fit-spec = tie.close (tie.spec returns)
+pub lengths_fit_spec : {M : Type 1} → statement M
+lengths_fit_spec = tie.close (tie.spec returns)

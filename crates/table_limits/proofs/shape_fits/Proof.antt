@@ -8,5 +8,5 @@ returns : tie.Need-returns
 unfolding shape_fits
 returns c = search rules
 
-pub shape-fits-spec : {M : Type 1} → statement M
-shape-fits-spec = tie.close (tie.spec returns)
+pub shape_fits_spec : {M : Type 1} → statement M
+shape_fits_spec = tie.close (tie.spec returns)

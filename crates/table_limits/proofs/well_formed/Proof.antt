@@ -4,17 +4,17 @@ use borrow.Author.Rules.{rules}
 use Rattle.table_limits.proofs.well_formed.Statement.{statement}
 use Rattle.table_limits.proofs.well_formed.Tie as tie
 
-shape-fits-requires : tie.Need-shape-fits-requires
-shape-fits-requires c κs = search rules
+shape_fits-requires : tie.Need-shape_fits-requires
+shape_fits-requires c κs = search rules
 
-lengths-fit-requires : tie.Need-lengths-fit-requires
-lengths-fit-requires c κs = search rules
+lengths_fit-requires : tie.Need-lengths_fit-requires
+lengths_fit-requires c κs = search rules
 
 returns : tie.Need-returns
 unfolding well_formed
 returns c =
     λ t dist redist dist-presence redist-presence.
-    rw (c.before.shape-fits.ensures, c.lengths-fit.ensures t dist redist dist-presence redist-presence)
+    rw (c.before.shape_fits.ensures, c.lengths_fit.ensures t dist redist dist-presence redist-presence)
 
-pub well-formed-spec : {M : Type 1} → statement M
-well-formed-spec = tie.close (tie.spec shape-fits-requires lengths-fit-requires returns)
+pub well_formed_spec : {M : Type 1} → statement M
+well_formed_spec = tie.close (tie.spec shape_fits-requires lengths_fit-requires returns)

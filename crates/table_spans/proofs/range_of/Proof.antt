@@ -1,4 +1,4 @@
--- `range_of` is `range_of`. Four ways out: SPIs (returns), SGIs and PPIs (returns-2), extended SPIs (returns-3), extended PPIs (returns-4).
+-- `range_of` is `range_of`. Four ways out: SPIs (returns-then-m-lt1020), SGIs and PPIs (returns-then-m-lt32), extended SPIs (returns-else-m-lt1020), extended PPIs (returns-else-m-lt32).
 use mathlib.Core.Path.{refl}
 use native.Mathlib.Omega.{arith}
 use borrow.Author.Tests.{lt-ltb, le-ltb}
@@ -8,70 +8,70 @@ use Rattle.table_spans.proofs.Ranges.{limits}
 use Rattle.table_spans.proofs.range_of.Statement.{statement}
 use Rattle.table_spans.proofs.range_of.Tie as tie
 
-enum_told : tie.Need-enum-told
-enum_told c = search rules
+enum_told-1 : tie.Need-enum_told-1
+enum_told-1 c = search rules
 
-mul-smaller : tie.Need-mul-smaller
-mul-smaller c =
-    let e = c.before.before.before.before in let l = (limits e.args.shape e.pre).lines_at_most in record { fits = omega arith }
+overflow_mul-shape : tie.Need-overflow_mul-shape
+overflow_mul-shape c =
+    let e = c.before.before.before.before in let l = (limits e.args.shape e.requires).lines_at_most in record { fits = omega arith }
 
-add-smaller : tie.Need-add-smaller
-add-smaller c =
-    let e = c.before.before.before.before in let l = (limits e.args.shape e.pre).lines_at_most in record { fits = omega arith }
+overflow_add-shape : tie.Need-overflow_add-shape
+overflow_add-shape c =
+    let e = c.before.before.before.before in let l = (limits e.args.shape e.requires).lines_at_most in record { fits = omega arith }
 
 smaller-requires : tie.Need-smaller-requires
 smaller-requires c κs = search rules
 
-returns : tie.Need-returns
+returns-then-m-lt1020 : tie.Need-returns-then-m-lt1020
 unfolding range_of
-returns c =
-    rw (c.before.before.before.enum_told.given.1, lt-ltb _ _ c.before.before.if1.taken, c.smaller.ensures) refl
+returns-then-m-lt1020 c =
+    rw (c.before.before.before.enum_told-1.given.1, lt-ltb _ _ c.before.before.if-m-lt1020.taken, c.smaller.ensures) refl
 
-mul-t9 : tie.Need-mul-t9
-mul-t9 c =
-    let e = c.before.before.before.before in let l = (limits e.args.shape e.pre).espi_at_most in record { fits = omega arith }
+overflow_mul-result : tie.Need-overflow_mul-result
+overflow_mul-result c =
+    let e = c.before.before.before.before in let l = (limits e.args.shape e.requires).espi_at_most in record { fits = omega arith }
 
-add-t10 : tie.Need-add-t10
-add-t10 c =
-    let e = c.before.before.before.before in let l = (limits e.args.shape e.pre).espi_at_most in record { fits = omega arith }
+overflow_add-result : tie.Need-overflow_add-result
+overflow_add-result c =
+    let e = c.before.before.before.before in let l = (limits e.args.shape e.requires).espi_at_most in record { fits = omega arith }
 
-enum-told-2 : tie.Need-enum-told-2
-enum-told-2 c = search rules
+enum_told-in-Redist : tie.Need-enum_told-in-Redist
+enum_told-in-Redist c = search rules
 
-returns-2 : tie.Need-returns-2
+returns-then-m-lt32 : tie.Need-returns-then-m-lt32
 unfolding range_of
-returns-2 c = rw (c.before.enum-told2.given.1, lt-ltb _ _ c.if2.taken) refl
+returns-then-m-lt32 c = rw (c.before.enum_told-in-Redist-1.given.1, lt-ltb _ _ c.if-m-lt32.taken) refl
 
-mul-t12 : tie.Need-mul-t12
-mul-t12 c =
-    let e = c.before.before.before.before in let l = (limits e.args.shape e.pre).eppi_at_most in record { fits = omega arith }
+overflow_mul-result-in-Redist : tie.Need-overflow_mul-result-in-Redist
+overflow_mul-result-in-Redist c =
+    let e = c.before.before.before.before in let l = (limits e.args.shape e.requires).eppi_at_most in record { fits = omega arith }
 
-add-t13 : tie.Need-add-t13
-add-t13 c =
-    let e = c.before.before.before.before in let l = (limits e.args.shape e.pre).eppi_at_most in record { fits = omega arith }
+overflow_add-result-in-Redist : tie.Need-overflow_add-result-in-Redist
+overflow_add-result-in-Redist c =
+    let e = c.before.before.before.before in let l = (limits e.args.shape e.requires).eppi_at_most in record { fits = omega arith }
 
-returns-3 : tie.Need-returns-3
+returns-else-m-lt1020 : tie.Need-returns-else-m-lt1020
 unfolding range_of
-returns-3 c = rw (c.before.before.enum_told.given.1, le-ltb _ _ c.before.if1.left) refl
+returns-else-m-lt1020 c = rw (c.before.before.enum_told-1.given.1, le-ltb _ _ c.before.if-m-lt1020.left) refl
 
-returns-4 : tie.Need-returns-4
+returns-else-m-lt32 : tie.Need-returns-else-m-lt32
 unfolding range_of
-returns-4 c = rw (c.before.before.enum-told2.given.1, le-ltb _ _ c.before.if2.left) refl
+returns-else-m-lt32 c = rw (c.before.before.enum_told-in-Redist-1.given.1, le-ltb _ _ c.before.if-m-lt32.left) refl
 
-pub range-of-spec : {M : Type 1} → statement M
-range-of-spec =
+pub range_of_spec : {M : Type 1} → statement M
+range_of_spec =
     tie.close
     (tie.spec
-    enum_told
-    mul-smaller
-    add-smaller
+    enum_told-1
+    overflow_mul-shape
+    overflow_add-shape
     smaller-requires
-    returns
-    mul-t9
-    add-t10
-    enum-told-2
-    returns-2
-    mul-t12
-    add-t13
-    returns-3
-    returns-4)
+    returns-then-m-lt1020
+    overflow_mul-result
+    overflow_add-result
+    enum_told-in-Redist
+    returns-then-m-lt32
+    overflow_mul-result-in-Redist
+    overflow_add-result-in-Redist
+    returns-else-m-lt1020
+    returns-else-m-lt32)

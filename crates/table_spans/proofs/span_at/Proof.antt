@@ -5,60 +5,60 @@ use Rattle.table_spans.specs.Span.{span_at}
 use Rattle.table_spans.proofs.span_at.Statement.{statement}
 use Rattle.table_spans.proofs.span_at.Tie as tie
 
-add_start : tie.Need-add-start
-add_start c = search rules
+overflow_add-start : tie.Need-overflow_add-start
+overflow_add-start c = search rules
 
-add-smaller : tie.Need-add-smaller
-add-smaller c = search rules
+overflow_add-x : tie.Need-overflow_add-x
+overflow_add-x c = search rules
 
-sub-smaller : tie.Need-sub-smaller
-sub-smaller c = search rules
+overflow_sub-range : tie.Need-overflow_sub-range
+overflow_sub-range c = search rules
 
 smaller-requires : tie.Need-smaller-requires
 smaller-requires c κs = search rules
 
-add-end : tie.Need-add-end
-add-end c = search rules
+overflow_add-end : tie.Need-overflow_add-end
+overflow_add-end c = search rules
 
-add-word : tie.Need-add-word
-add-word c = search rules
+overflow_add-word : tie.Need-overflow_add-word
+overflow_add-word c = search rules
 
-cast-t11 : tie.Need-cast-t11
-cast-t11 c = search rules
+overflow_cast-result : tie.Need-overflow_cast-result
+overflow_cast-result c = search rules
 
-cast-t12 : tie.Need-cast-t12
-cast-t12 c = search rules
+overflow_cast-result-2 : tie.Need-overflow_cast-result-2
+overflow_cast-result-2 c = search rules
 
-cast-t13 : tie.Need-cast-t13
-cast-t13 c = search rules
+overflow_cast-result-3 : tie.Need-overflow_cast-result-3
+overflow_cast-result-3 c = search rules
 
-mul-t14 : tie.Need-mul-t14
-mul-t14 c = search rules
+offset_bounds-presence-word : tie.Need-offset_bounds-presence-word
+offset_bounds-presence-word c = search rules
 
-shared-slice-read-t10 : tie.Need-shared-slice-read-t10
-shared-slice-read-t10 c = search rules
+bounds-presence-word : tie.Need-bounds-presence-word
+bounds-presence-word c = search rules
 
-shr-t9 : tie.Need-shr-t9
-shr-t9 c = search rules
+overflow_shr-result : tie.Need-overflow_shr-result
+overflow_shr-result c = search rules
 
 returns : tie.Need-returns
 unfolding span_at
 returns c = rw c.before.before.before.smaller.ensures refl
 
-pub span-at-spec : {M : Type 1} → statement M
-span-at-spec =
+pub span_at_spec : {M : Type 1} → statement M
+span_at_spec =
     tie.close
     (tie.spec
-    add_start
-    add-smaller
-    sub-smaller
+    overflow_add-start
+    overflow_add-x
+    overflow_sub-range
     smaller-requires
-    add-end
-    add-word
-    cast-t11
-    cast-t12
-    cast-t13
-    mul-t14
-    shared-slice-read-t10
-    shr-t9
+    overflow_add-end
+    overflow_add-word
+    overflow_cast-result
+    overflow_cast-result-2
+    overflow_cast-result-3
+    offset_bounds-presence-word
+    bounds-presence-word
+    overflow_shr-result
     returns)

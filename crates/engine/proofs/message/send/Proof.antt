@@ -11,7 +11,7 @@ use Rattle.record_messages.specs.Delivered.{delivered}
 use Rattle.engine.specs.Bank.{sent_in}
 use Rattle.engine.proofs.Uses.{asked, at_slot, at_none, sent_off, sent_on}
 use borrow.Author.Rules.{rules}
-use borrow.Author.Tests.{not-true, not_false}
+use borrow.Author.Tests.{not-true, not-false}
 use Rattle.engine.proofs.message.send.Statement.{statement}
 use Rattle.engine.proofs.message.send.Tie as tie
 
@@ -62,7 +62,7 @@ returns-2 c i h =
     let a = (entry s).args in
     ap (set a.records.now (P s).start) (c.deliver.ensures a.shape i h)
     ∙ (at_slot (delivered a.shape a.side a.message i) (P s) a.records.now c.before.before.if2.true
-    ∙ (sent_on a.shape a.side a.message i (P s) a.records.now (not_false _ s.before.if1.false)
+    ∙ (sent_on a.shape a.side a.message i (P s) a.records.now (not-false _ s.before.if1.false)
     ∙ ap (λ (p : Span). sent_in a.shape a.side a.message i p a.records.now) s.Span-of.ensures))
 
 returns-3 : tie.Need-returns-3
@@ -70,7 +70,7 @@ returns-3 c i h =
     let s = c.before.before.before in
     let a = (entry s).args in
     at_none (delivered a.shape a.side a.message i) (P s) a.records.now c.if2.false
-    ∙ (sent_on a.shape a.side a.message i (P s) a.records.now (not_false _ s.before.if1.false)
+    ∙ (sent_on a.shape a.side a.message i (P s) a.records.now (not-false _ s.before.if1.false)
     ∙ ap (λ (p : Span). sent_in a.shape a.side a.message i p a.records.now) s.Span-of.ensures)
 
 pub send-spec : {M : Type 1} → statement M

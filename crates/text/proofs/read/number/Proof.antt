@@ -1,33 +1,39 @@
--- `read::number` is `number_in`. Three ways out: an empty text (returns), one with a leading zero (returns-2), and any other, whose digits
--- are read (returns-3).
+-- `read::number` is `number_in`. Three ways out: an empty text (returns-then-text-eq0), one with a leading zero (returns-then-leads_with_zero), and any other, whose digits
+-- are read (returns).
 use borrow.Author.Rules.{rules}
 use borrow.Author.Tests.{eq-eqb, ne_eqb}
 use Rattle.text.specs.Number.{number_in}
 use Rattle.text.proofs.read.number.Statement.{statement}
 use Rattle.text.proofs.read.number.Tie as tie
 
-returns : tie.Need-returns
+returns-then-text-eq0 : tie.Need-returns-then-text-eq0
 unfolding number_in
-returns c = rw (eq-eqb _ _ c.if1.true)
+returns-then-text-eq0 c = rw (eq-eqb _ _ c.if-text-eq0.true)
 
-leads-with-zero-requires : tie.Need-leads-with-zero-requires
-leads-with-zero-requires c κs = search rules
+leads_with_zero-requires : tie.Need-leads_with_zero-requires
+leads_with_zero-requires c κs = search rules
 
-returns-2 : tie.Need-returns-2
+returns-then-leads_with_zero : tie.Need-returns-then-leads_with_zero
 unfolding number_in
-returns-2 c =
+returns-then-leads_with_zero c =
     let z = c.before in
-    rw (ne_eqb _ _ z.before.if1.false, ← z.leads-with-zero.ensures, c.if2.true)
+    rw (ne_eqb _ _ z.before.if-text-eq0.false, ← z.leads_with_zero.ensures, c.if-leads_with_zero.true)
 
 digits-requires : tie.Need-digits-requires
 digits-requires c κs = search rules
 
-returns-3 : tie.Need-returns-3
+returns : tie.Need-returns
 unfolding number_in
-returns-3 c =
+returns c =
     let z = c.before.before in
-    rw (ne_eqb _ _ z.before.if1.false, ← z.leads-with-zero.ensures, c.before.if2.false) c.digits.ensures
+    rw (ne_eqb _ _ z.before.if-text-eq0.false, ← z.leads_with_zero.ensures, c.before.if-leads_with_zero.false) c.digits.ensures
 
-pub number-spec : {M : Type 1} → statement M
-number-spec =
-    tie.close (tie.spec returns leads-with-zero-requires returns-2 digits-requires returns-3)
+pub number_spec : {M : Type 1} → statement M
+number_spec =
+    tie.close
+    (tie.spec
+    returns-then-text-eq0
+    leads_with_zero-requires
+    returns-then-leads_with_zero
+    digits-requires
+    returns)

@@ -17,65 +17,65 @@ record Copied (old : List ℕ) (end : ℕ) (text new : List ℕ) (i : ℕ) : Typ
   same : length new ≡ length old
   is : new ≡ paste old end text i
 
-abbrev invariant-loop : tie.invariant-loop
-invariant-loop out₀ end text i₀ out i = Copied out₀ end text out i
+abbrev invariant-loop-i : tie.invariant-loop-i
+invariant-loop-i out₀ end text i₀ out i = Copied out₀ end text out i
 
-abbrev decreases-loop : tie.decreases-loop
-decreases-loop out₀ end text i₀ out i = length text - i
+abbrev decreases-loop-i : tie.decreases-loop-i
+decreases-loop-i out₀ end text i₀ out i = length text - i
 
-loop-holds : tie.Need-loop-init invariant-loop decreases-loop
+loop-holds : tie.Need-loop-i-init invariant-loop-i decreases-loop-i
 loop-holds c = record { low = omega arith; same = refl; is = paste-zero _ c.args.end c.args.text.now }
 
-shared-slice-read-out : tie.Need-shared-slice-read-out invariant-loop decreases-loop
-shared-slice-read-out c = search rules
+bounds-text-i : tie.Need-bounds-text-i invariant-loop-i decreases-loop-i
+bounds-text-i c = search rules
 
-add-out : tie.Need-overflow-add-out invariant-loop decreases-loop
-add-out c = search rules
+overflow_add-out : tie.Need-overflow_add-out invariant-loop-i decreases-loop-i
+overflow_add-out c = search rules
 
-slice-write-out : tie.Need-slice-write-out invariant-loop decreases-loop
-slice-write-out c = search rules
+bounds-out-end : tie.Need-bounds-out-end invariant-loop-i decreases-loop-i
+bounds-out-end c = search rules
 
-add-i : tie.Need-overflow-add-i invariant-loop decreases-loop
-add-i c = search rules
+overflow_add-i : tie.Need-overflow_add-i invariant-loop-i decreases-loop-i
+overflow_add-i c = search rules
 
-loop-less : tie.Need-loop-smaller invariant-loop decreases-loop
+loop-less : tie.Need-loop-i-smaller invariant-loop-i decreases-loop-i
 loop-less c = search rules
 
-loop-again : tie.Need-loop-preserved invariant-loop decreases-loop
+loop-again : tie.Need-loop-i-preserved invariant-loop-i decreases-loop-i
 loop-again c =
     let l = c.before.before in
     let a = l.before.args in
-    let same = l.loop.invariant.same in
+    let same = l.loop-i.invariant.same in
     record {
       low = omega arith;
       same = simp length-set (omega arith);
       is =
-          rw (l.loop.invariant.is, add-one)
-          (paste-suc a.out.now a.end a.text.now l.loop.i 0 (omega arith) (omega arith));
+          rw (l.loop-i.invariant.is, add-one)
+          (paste-suc a.out.now a.end a.text.now l.loop-i.i 0 (omega arith) (omega arith));
     }
 
-add-result : tie.Need-overflow-add-result invariant-loop decreases-loop
-add-result c = search rules
+overflow_add-result : tie.Need-overflow_add-result invariant-loop-i decreases-loop-i
+overflow_add-result c = search rules
 
-same_length : tie.Need-same-length invariant-loop decreases-loop
-same_length c = search rules
+shape_of-out : tie.Need-shape_of-out invariant-loop-i decreases-loop-i
+shape_of-out c = search rules
 
-returns : tie.Need-returns invariant-loop decreases-loop
-returns c = rw c.before.loop.invariant.is (put_paste _ _ _ _ (omega arith) c.before.before.requires)
+returns : tie.Need-returns invariant-loop-i decreases-loop-i
+returns c = rw c.before.loop-i.invariant.is (put_paste _ _ _ _ (omega arith) c.before.before.requires)
 
 pub put_spec : {M : Type 1} → statement M
 put_spec =
     tie.close
     (tie.spec
-    invariant-loop
-    decreases-loop
+    invariant-loop-i
+    decreases-loop-i
     loop-holds
-    shared-slice-read-out
-    add-out
-    slice-write-out
-    add-i
+    bounds-text-i
+    overflow_add-out
+    bounds-out-end
+    overflow_add-i
     loop-less
     loop-again
-    add-result
-    same_length
+    overflow_add-result
+    shape_of-out
     returns)

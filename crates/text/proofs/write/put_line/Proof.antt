@@ -8,38 +8,44 @@ use Rattle.text.proofs.write.put_line.Statement.{statement}
 use Rattle.text.proofs.write.put_line.Tie as tie
 
 -- back from where the line's end is to be put: the digits put, the key put, the entry
-abbrev digits : tie.After-put-byte-arg → tie.After-put-digits
+abbrev digits : tie.After-put_byte-arg-1 → tie.After-put_digits-last
 digits c = c.before.before.before
 
-abbrev key : tie.After-put-digits → tie.After-put
+abbrev key : tie.After-put_digits-last → tie.After-put-number
 key c = c.before.before.before.before
 
-abbrev entry : tie.After-put → tie.Start
+abbrev entry : tie.After-put-number → tie.Start
 entry c = c.before.before.before.before
 
-put-requires : tie.Need-put-requires
-put-requires c κs = search rules
+put-number-requires : tie.Need-put-number-requires
+put-number-requires c κs = search rules
 
-put-digits-requires : tie.Need-put-digits-requires
-put-digits-requires c κs = search rules
+put_digits-last-requires : tie.Need-put_digits-last-requires
+put_digits-last-requires c κs = search rules
 
-put-byte-requires : tie.Need-put-byte-requires
-put-byte-requires c κs =
-    let d = (digits c).put-digits in
-    let k = (key (digits c)).put in
+put_byte-requires : tie.Need-put_byte-requires
+put_byte-requires c κs =
+    let d = (digits c).put_digits-last in
+    let k = (key (digits c)).put-number in
     let e = entry (key (digits c)) in
-    omega (arith, d.ensures.end, length_digits 20 e.args.n, d.kept.0, k.ensures.end, k.kept.0, e.pre)
+    omega (arith, d.ensures.end, length_digits 20 e.args.n, d.auto.out, k.ensures.end, k.auto.out, e.requires)
 
-same_length : tie.Need-same-length
-same_length c = search rules
+shape_of-out : tie.Need-shape_of-out
+shape_of-out c = search rules
 
 returns : tie.Need-returns
 unfolding numbered decimal
 returns c =
     let b = c.before.before in
     let d = digits b.before in
-    put_both (key d).put.ensures (put_both d.put-digits.ensures b.put_byte.ensures)
+    put_both (key d).put-number.ensures (put_both d.put_digits-last.ensures b.put_byte.ensures)
 
-pub put-line-spec : {M : Type 1} → statement M
-put-line-spec =
-    tie.close (tie.spec put-requires put-digits-requires put-byte-requires same_length returns)
+pub put_line_spec : {M : Type 1} → statement M
+put_line_spec =
+    tie.close
+    (tie.spec
+    put-number-requires
+    put_digits-last-requires
+    put_byte-requires
+    shape_of-out
+    returns)
