@@ -275,6 +275,7 @@ impl Icfgr {
 }
 
 // A family's row of document 01's table.
+#[tactic(auto, unfolding(meaning::specs::Registers::row_of))]
 pub fn row_of(f: Family) -> Row
     ensures { result ≡ row_of f }
 {

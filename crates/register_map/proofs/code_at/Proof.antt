@@ -6,12 +6,12 @@ use Rattle.lists.proofs.Tables.{tabulate_at}
 use Rattle.register_map.proofs.code_at.Statement.{statement}
 use Rattle.register_map.proofs.code_at.Tie as tie
 
-array-read-result : tie.Need-array-read-result
-array-read-result c = search rules
+bounds-word : tie.Need-bounds-word
+bounds-word c = search rules
 
 returns : tie.Need-returns
 unfolding code_at code listed in_column in_messages row_of
 returns c = tabulate_at code_at 0 1024 c.args.word c.requires
 
 pub code_at_spec : {M : Type 1} → statement M
-code_at_spec = tie.close (tie.spec array-read-result returns)
+code_at_spec = tie.close (tie.spec bounds-word returns)
