@@ -8,5 +8,20 @@ returns : tie.Need-returns
 unfolding bit_at
 returns c s at n = c.touched.ensures s _ n
 
-pub digit-stored-spec : {M : Type 1} → statement M
-digit-stored-spec = tie.close (tie.spec (search rules) (search rules) (search rules) returns)
+overflow_shr-word : tie.Need-overflow_shr-word
+overflow_shr-word = search rules
+
+overflow_add-word : tie.Need-overflow_add-word
+overflow_add-word = search rules
+
+touched-requires : tie.Need-touched-requires
+touched-requires = search rules
+
+pub digit_stored_spec : {M : Type 1} → statement M
+digit_stored_spec =
+    tie.close
+    (tie.spec
+    overflow_shr-word
+    overflow_add-word
+    touched-requires
+    returns)

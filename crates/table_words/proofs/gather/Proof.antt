@@ -25,53 +25,75 @@ record Gathering (part : List ℕ) (word : Word) (value x : ℕ) : Type 0 where
   low : x ≤ length part
   sum : (s : Shape) (at : ℕ → Interrupt) → Numbered (length part) word.first at → value ≡ digits s at word part x
 
-abbrev invariant-loop : tie.invariant-loop
-invariant-loop part word r value₀ x₀ x-end value x = Gathering part word value x
+abbrev invariant-loop-x : tie.invariant-loop-x
+invariant-loop-x part word r value₀ x₀ x-end value x = Gathering part word value x
 
-abbrev decreases-loop : tie.decreases-loop
-decreases-loop part word r value₀ x₀ x-end value x = length part - x
+abbrev decreases-loop-x : tie.decreases-loop-x
+decreases-loop-x part word r value₀ x₀ x-end value x = length part - x
 
 -- the entry, from the loop's test
-abbrev entry : tie.At-loop invariant-loop decreases-loop → tie.Start invariant-loop decreases-loop
+abbrev entry : tie.At-loop-x invariant-loop-x decreases-loop-x → tie.Start invariant-loop-x decreases-loop-x
 entry l = l.before.before.before
 
-here : (c : tie.In-loop invariant-loop decreases-loop) → DigitInside (entry c.before).args.word c.before.loop.x
-here c = let e = entry c.before in inside e.args.word e.args.part.now e.pre c.before.loop.x c.loop-test.true
+here : (c : tie.In-loop-x invariant-loop-x decreases-loop-x) → DigitInside (entry c.before).args.word c.before.loop-x.x
+here c = let e = entry c.before in inside e.args.word e.args.part.now e.requires c.before.loop-x.x c.loop-x-test.true
 
-loop-holds : tie.Need-loop-init invariant-loop decreases-loop
+loop-x-init : tie.Need-loop-x-init invariant-loop-x decreases-loop-x
 unfolding row
-loop-holds c = record { low = omega arith; sum = λ s at n. refl }
+loop-x-init c = record { low = omega arith; sum = λ s at n. refl }
 
-cast-shown-at : tie.Need-overflow-cast-shown-at invariant-loop decreases-loop
-cast-shown-at c = let h = here c in record { fits = omega arith }
+overflow_cast-x : tie.Need-overflow_cast-x invariant-loop-x decreases-loop-x
+overflow_cast-x c = let h = here c in record { fits = omega arith }
 
-shown-at-requires : tie.Need-shown-at-requires invariant-loop decreases-loop
-shown-at-requires c κs = (here c.before, c.before.before.before.row_of.ensures)
+shown_at-value-requires : tie.Need-shown_at-value-requires invariant-loop-x decreases-loop-x
+shown_at-value-requires c κs = (here c.before, c.before.before.before.row_of-row.ensures)
 
-loop-again : tie.Need-loop-preserved invariant-loop decreases-loop
-loop-again c =
+loop-x-preserved : tie.Need-loop-x-preserved invariant-loop-x decreases-loop-x
+loop-x-preserved c =
     let t = c.before.before in
-    let l = t.before.loop in
+    let l = t.before.loop-x in
     let a = (entry t.before).args in
     record {
       low = omega arith;
       sum = λ s at n.
-          rw (l.invariant.sum s at n, c.shown-at.ensures s at (n l.x t.loop-test.true))
+          rw (l.invariant.sum s at n, c.shown_at-value.ensures s at (n l.x t.loop-x-test.true))
           (row_or (bits_of a.word.family) l.x (λ k. shown_at s at a.word k (get_or a.part.now k 0))
           (λ k u. shown_small s at a.word k (get_or a.part.now k 0)) (here t).digit);
     }
 
-returns : tie.Need-returns invariant-loop decreases-loop
+returns : tie.Need-returns invariant-loop-x decreases-loop-x
 unfolding gathered
 returns c s at n =
-    let l = c.before.loop in
+    let l = c.before.loop-x in
     let a = (entry c.before).args in
     let low = l.invariant.low in
     let all : l.x ≡ length a.part.now = omega arith in
     l.invariant.sum s at n ∙ ap (digits s at a.word a.part.now) all
 
-pub gather-spec : {M : Type 1} → statement M
-gather-spec =
+row_of-row-requires : tie.Need-row_of-row-requires invariant-loop-x decreases-loop-x
+row_of-row-requires = search rules
+
+bounds-part-x : tie.Need-bounds-part-x invariant-loop-x decreases-loop-x
+bounds-part-x = search rules
+
+overflow_step-x : tie.Need-overflow_step-x invariant-loop-x decreases-loop-x
+overflow_step-x = search rules
+
+loop-x-smaller : tie.Need-loop-x-smaller invariant-loop-x decreases-loop-x
+loop-x-smaller = search rules
+
+pub gather_spec : {M : Type 1} → statement M
+gather_spec =
     tie.close
-    (tie.spec invariant-loop decreases-loop (search rules) loop-holds cast-shown-at (search rules) shown-at-requires (search rules) (search rules)
-    loop-again returns)
+    (tie.spec
+    invariant-loop-x
+    decreases-loop-x
+    row_of-row-requires
+    loop-x-init
+    overflow_cast-x
+    bounds-part-x
+    shown_at-value-requires
+    overflow_step-x
+    loop-x-smaller
+    loop-x-preserved
+    returns)

@@ -27,35 +27,35 @@ record Jumping (old : List ℕ) (word : Word) (value : ℕ) (new : List ℕ) (re
   same : length new ≡ length old
   jumped : (s : Shape) (at : ℕ → Interrupt) → Numbered (length old) word.first at → Jumped (stored_at s at word value) old new value rest
 
-abbrev invariant-loop : tie.invariant-loop
-invariant-loop part₀ word on switch value rest₀ x₀ part rest x = Jumping part₀ word value part rest x
+abbrev invariant-loop-x : tie.invariant-loop-x
+invariant-loop-x part₀ word on switch value rest₀ x₀ part rest x = Jumping part₀ word value part rest x
 
-abbrev decreases-loop : tie.decreases-loop
-decreases-loop part₀ word on switch value rest₀ x₀ part rest x = rest
+abbrev decreases-loop-x : tie.decreases-loop-x
+decreases-loop-x part₀ word on switch value rest₀ x₀ part rest x = rest
 
 -- the entry, from the loop's test
-abbrev entry : tie.At-loop invariant-loop decreases-loop → tie.Start invariant-loop decreases-loop
+abbrev entry : tie.At-loop-x invariant-loop-x decreases-loop-x → tie.Start invariant-loop-x decreases-loop-x
 entry l = l.before.before
 
 -- inside the loop: x is a place of the part, and its bit is 1
-module _ (c : tie.In-loop invariant-loop decreases-loop) where
-  abbrev l : tie.At-loop invariant-loop decreases-loop
+module _ (c : tie.In-loop-x invariant-loop-x decreases-loop-x) where
+  abbrev l : tie.At-loop-x invariant-loop-x decreases-loop-x
   l = c.before
 
-  below : l.loop.x < length (entry l).args.part.now
-  below = let s = l.loop.inv.same in let t = c.loop-test.true in omega arith
+  below : l.loop-x.x < length (entry l).args.part.now
+  below = let s = l.loop-x.invariant.same in let t = c.loop-x-test.true in omega arith
 
-  here : DigitInside (entry l).args.word l.loop.x
-  here = inside (entry l).args.word (entry l).args.part.now (entry l).pre.0 l.loop.x below
+  here : DigitInside (entry l).args.word l.loop-x.x
+  here = inside (entry l).args.word (entry l).args.part.now (entry l).requires.0 l.loop-x.x below
 
-  one : bit_at l.loop.rest l.loop.x ≡ true
+  one : bit_at l.loop-x.rest l.loop-x.x ≡ true
   one =
-      let e = l.loop.inv.next in
+      let e = l.loop-x.invariant.next in
       let h = here.place in
-      ap (λ (k : ℕ). bit_at l.loop.rest k) e ∙ at_count 32 l.loop.rest (omega arith)
+      ap (λ (k : ℕ). bit_at l.loop-x.rest k) e ∙ at_count 32 l.loop-x.rest (omega arith)
 
-loop-holds : tie.Need-loop-init invariant-loop decreases-loop
-loop-holds c =
+loop-x-init : tie.Need-loop-x-init invariant-loop-x decreases-loop-x
+loop-x-init c =
     let a = c.before.args in
     record {
       next = refl;
@@ -65,51 +65,72 @@ loop-holds c =
           (λ k h z. quiet_at s at a.word a.on a.switch c.before.requires.1 a.value k _ z);
     }
 
-cast-loop : tie.Need-overflow-cast-loop invariant-loop decreases-loop
-cast-loop c = let e = c.loop.invariant.next in let h = trailing_le 32 c.loop.rest in record { fits = omega arith }
+overflow_cast-x : tie.Need-overflow_cast-x invariant-loop-x decreases-loop-x
+overflow_cast-x c = let e = c.loop-x.invariant.next in let h = trailing_le 32 c.loop-x.rest in record { fits = omega arith }
 
-digit-stored-requires : tie.Need-digit-stored-requires invariant-loop decreases-loop
-digit-stored-requires c κs = here c.before
+digit_stored-requires : tie.Need-digit_stored-requires invariant-loop-x decreases-loop-x
+digit_stored-requires c κs = here c.before
 
-shl-rest : tie.Need-overflow-shl-rest invariant-loop decreases-loop
-shl-rest c = (here c.before.before).place
+overflow_shl-rest : tie.Need-overflow_shl-rest invariant-loop-x decreases-loop-x
+overflow_shl-rest c = (here c.before.before).place
 
-loop-less : tie.Need-loop-smaller invariant-loop decreases-loop
-loop-less c = let t = c.before.before in without_less t.before.loop.rest t.before.loop.x (here t).place (one t)
+loop-x-smaller : tie.Need-loop-x-smaller invariant-loop-x decreases-loop-x
+loop-x-smaller c = let t = c.before.before in without_less t.before.loop-x.rest t.before.loop-x.x (here t).place (one t)
 
-loop-again : tie.Need-loop-preserved invariant-loop decreases-loop
-loop-again c =
+loop-x-preserved : tie.Need-loop-x-preserved invariant-loop-x decreases-loop-x
+loop-x-preserved c =
     let t = c.before.before in
-    let l = t.before.loop in
+    let l = t.before.loop-x in
     let e = entry t.before in
     let a = e.args in
     record {
       next = refl;
-      same = length-set l.part l.x c.digit-stored.result ∙ l.invariant.same;
+      same = length-set l.part l.x c.digit_stored.result ∙ l.invariant.same;
       jumped = λ s at n.
           let j = l.invariant.jumped s at n in
-          jumped_more (stored_at s at a.word a.value) a.part.now l.part a.value l.rest l.x c.digit-stored.result
-          j (part_small a.word a.part.now e.pre.0) t.loop-test.true (one t)
-          (one_at s at a.word a.on a.switch e.pre.1 a.value l.x (get_or l.part l.x 0) c.digit-stored.result
-          (j.ones l.x (below t) (one t)) (c.digit-stored.ensures s at (n l.x (below t))));
+          jumped_more (stored_at s at a.word a.value) a.part.now l.part a.value l.rest l.x c.digit_stored.result
+          j (part_small a.word a.part.now e.requires.0) t.loop-x-test.true (one t)
+          (one_at s at a.word a.on a.switch e.requires.1 a.value l.x (get_or l.part l.x 0) c.digit_stored.result
+          (j.ones l.x (below t) (one t)) (c.digit_stored.ensures s at (n l.x (below t))));
     }
 
-same_length : tie.Need-same-length invariant-loop decreases-loop
-same_length c = c.before.loop.invariant.same
+shape_of-part : tie.Need-shape_of-part invariant-loop-x decreases-loop-x
+shape_of-part c = c.before.loop-x.invariant.same
 
-returns : tie.Need-returns invariant-loop decreases-loop
+returns : tie.Need-returns invariant-loop-x decreases-loop-x
 unfolding stored
 returns c s at n =
-    let l = c.before.loop in
+    let l = c.before.loop-x in
     let a = (entry c.before).args in
     let same = l.invariant.same in
     let next = l.invariant.next in
-    let t = c.loop-test.false in
+    let t = c.loop-x-test.false in
     jumped_all (stored_at s at a.word a.value) a.part.now l.part a.value l.rest (l.invariant.jumped s at n)
     (λ k h. below_count 32 l.rest k (omega arith))
 
-pub jump-spec : {M : Type 1} → statement M
-jump-spec =
+overflow_cast-at : tie.Need-overflow_cast-at invariant-loop-x decreases-loop-x
+overflow_cast-at = search rules
+
+bounds-part-at : tie.Need-bounds-part-at invariant-loop-x decreases-loop-x
+bounds-part-at = search rules
+
+bounds-part-at-in-loop-x : tie.Need-bounds-part-at-in-loop-x invariant-loop-x decreases-loop-x
+bounds-part-at-in-loop-x = search rules
+
+pub jump_spec : {M : Type 1} → statement M
+jump_spec =
     tie.close
-    (tie.spec invariant-loop decreases-loop loop-holds cast-loop (search rules) (search rules) digit-stored-requires (search rules) shl-rest
-    loop-less loop-again same_length returns)
+    (tie.spec
+    invariant-loop-x
+    decreases-loop-x
+    loop-x-init
+    overflow_cast-x
+    overflow_cast-at
+    bounds-part-at
+    digit_stored-requires
+    bounds-part-at-in-loop-x
+    overflow_shl-rest
+    loop-x-smaller
+    loop-x-preserved
+    shape_of-part
+    returns)

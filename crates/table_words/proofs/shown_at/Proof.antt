@@ -12,23 +12,40 @@ use Rattle.table_words.proofs.shown_at.Statement.{statement}
 use Rattle.table_words.proofs.shown_at.Tie as tie
 
 -- the entry, from the shift
-abbrev entry : tie.After-struct-known3 → tie.Start
+abbrev entry : tie.After-struct_known-3-1 → tie.Start
 entry c = c.before.before.before.before
 
-shift : (c : tie.After-struct-known3) → bits_of (entry c).args.word.family * (entry c).args.x < 32
+shift : (c : tie.After-struct_known-3-1) → bits_of (entry c).args.word.family * (entry c).args.x < 32
 shift c = shift_small (entry c).args.word (entry c).args.x (entry c).requires.0
 
-mul-result : tie.Need-overflow-mul-result
-mul-result c = let h = shift c in record { fits = rw (entry c).requires.1 (omega arith) }
+overflow_mul-result : tie.Need-overflow_mul-result
+overflow_mul-result c = let h = shift c in record { fits = rw (entry c).requires.1 (omega arith) }
 
-shl-result : tie.Need-overflow-shl-result
-shl-result c = rw (entry c).requires.1 (shift c)
+overflow_shl-result : tie.Need-overflow_shl-result
+overflow_shl-result c = rw (entry c).requires.1 (shift c)
 
 returns : tie.Need-returns
 unfolding shown_at bit_at
 returns c s at n =
-    ap₂ (λ (d b : ℕ). (d * 2 ^ (b * (entry c).args.x)) % 2 ^ 32) (rw (entry c).requires.1 at (c.before.visible.ensures s _ n))
+    ap₂ (λ (d b : ℕ). (d * 2 ^ (b * (entry c).args.x)) % 2 ^ 32) (rw (entry c).requires.1 at (c.before.visible-d.ensures s _ n))
     (ap (λ (r : Row). r.bits) (entry c).requires.1)
 
-pub shown-at-spec : {M : Type 1} → statement M
-shown-at-spec = tie.close (tie.spec (search rules) (search rules) (search rules) mul-result shl-result returns)
+overflow_shr-word : tie.Need-overflow_shr-word
+overflow_shr-word = search rules
+
+overflow_add-word : tie.Need-overflow_add-word
+overflow_add-word = search rules
+
+visible-d-requires : tie.Need-visible-d-requires
+visible-d-requires = search rules
+
+pub shown_at_spec : {M : Type 1} → statement M
+shown_at_spec =
+    tie.close
+    (tie.spec
+    overflow_shr-word
+    overflow_add-word
+    visible-d-requires
+    overflow_mul-result
+    overflow_shl-result
+    returns)

@@ -16,26 +16,37 @@ module _ (e : tie.Start) where
   f = e.args.word.family
 
   row : e.args.row ≡ row_of f
-  row = e.pre.1
+  row = e.requires.1
 
   shift : bits_of f * e.args.x < 32
-  shift = shift_small e.args.word e.args.x e.pre.0
+  shift = shift_small e.args.word e.args.x e.requires.0
 
-mul-d : tie.Need-overflow-mul-d
-mul-d c = let h = shift c.before in record { fits = rw (row c.before) (omega arith) }
+overflow_mul-d : tie.Need-overflow_mul-d
+overflow_mul-d c = let h = shift c.before in record { fits = rw (row c.before) (omega arith) }
 
-shr-d : tie.Need-overflow-shr-d
-shr-d c = rw (row c.before) (shift c.before)
+overflow_shr-d : tie.Need-overflow_shr-d
+overflow_shr-d c = rw (row c.before) (shift c.before)
 
-shl-d : tie.Need-overflow-shl-d
-shl-d c = let e = c.before.before in rw (row e) (bits_small (f e))
+overflow_shl-d : tie.Need-overflow_shl-d
+overflow_shl-d c = let e = c.before.before in rw (row e) (bits_small (f e))
 
-rem-d : tie.Need-nonzero-rem-d
-rem-d c = let e = c.before.before in rw (row e, modulus (f e)) (modulus_pos (f e))
+nonzero_rem-d : tie.Need-nonzero_rem-d
+nonzero_rem-d c = let e = c.before.before in rw (row e, modulus (f e)) (modulus_pos (f e))
 
 returns : tie.Need-returns
 unfolding stored_at digit_at
-returns c s at n = let e = c.before.before.before in rw (row e, modulus (f e)) at (c.digit-stored.ensures s at n)
+returns c s at n = let e = c.before.before.before in rw (row e, modulus (f e)) at (c.digit_stored.ensures s at n)
 
-pub stored-at-spec : {M : Type 1} → statement M
-stored-at-spec = tie.close (tie.spec mul-d shr-d shl-d rem-d (search rules) returns)
+digit_stored-requires : tie.Need-digit_stored-requires
+digit_stored-requires = search rules
+
+pub stored_at_spec : {M : Type 1} → statement M
+stored_at_spec =
+    tie.close
+    (tie.spec
+    overflow_mul-d
+    overflow_shr-d
+    overflow_shl-d
+    nonzero_rem-d
+    digit_stored-requires
+    returns)

@@ -20,52 +20,75 @@ record Walking (old : List ℕ) (word : Word) (value : ℕ) (new : List ℕ) (x 
   same : length new ≡ length old
   mapped : (s : Shape) (at : ℕ → Interrupt) → Numbered (length old) word.first at → Mapped (stored_at s at word value) old new x
 
-abbrev invariant-loop : tie.invariant-loop
-invariant-loop part₀ word r value x₀ x-end part x = Walking part₀ word value part x
+abbrev invariant-loop-x : tie.invariant-loop-x
+invariant-loop-x part₀ word r value x₀ x-end part x = Walking part₀ word value part x
 
-abbrev decreases-loop : tie.decreases-loop
-decreases-loop part₀ word r value x₀ x-end part x = length part₀ - x
+abbrev decreases-loop-x : tie.decreases-loop-x
+decreases-loop-x part₀ word r value x₀ x-end part x = length part₀ - x
 
 -- the entry, from the loop's test
-abbrev entry : tie.At-loop invariant-loop decreases-loop → tie.Start invariant-loop decreases-loop
+abbrev entry : tie.At-loop-x invariant-loop-x decreases-loop-x → tie.Start invariant-loop-x decreases-loop-x
 entry l = l.before.before
 
-here : (c : tie.In-loop invariant-loop decreases-loop) → DigitInside (entry c.before).args.word c.before.loop.x
-here c = let e = entry c.before in inside e.args.word e.args.part.now e.pre.0 c.before.loop.x c.loop-test.true
+here : (c : tie.In-loop-x invariant-loop-x decreases-loop-x) → DigitInside (entry c.before).args.word c.before.loop-x.x
+here c = let e = entry c.before in inside e.args.word e.args.part.now e.requires.0 c.before.loop-x.x c.loop-x-test.true
 
-loop-holds : tie.Need-loop-init invariant-loop decreases-loop
-loop-holds c = record { low = omega arith; same = refl; mapped = λ s at n. mapped_none _ _ }
+loop-x-init : tie.Need-loop-x-init invariant-loop-x decreases-loop-x
+loop-x-init c = record { low = omega arith; same = refl; mapped = λ s at n. mapped_none _ _ }
 
-cast-stored-at : tie.Need-overflow-cast-stored-at invariant-loop decreases-loop
-cast-stored-at c = let h = here c in record { fits = omega arith }
+overflow_cast-x : tie.Need-overflow_cast-x invariant-loop-x decreases-loop-x
+overflow_cast-x c = let h = here c in record { fits = omega arith }
 
-stored-at-requires : tie.Need-stored-at-requires invariant-loop decreases-loop
-stored-at-requires c κs = (here c.before, (entry c.before.before).pre.1)
+stored_at-requires : tie.Need-stored_at-requires invariant-loop-x decreases-loop-x
+stored_at-requires c κs = (here c.before, (entry c.before.before).requires.1)
 
-loop-again : tie.Need-loop-preserved invariant-loop decreases-loop
-loop-again c =
+loop-x-preserved : tie.Need-loop-x-preserved invariant-loop-x decreases-loop-x
+loop-x-preserved c =
     let t = c.before.before in
-    let l = t.before.loop in
+    let l = t.before.loop-x in
     let same = l.invariant.same in
     record {
       low = omega arith;
       same = length-set l.part l.x c.stored_at.result ∙ same;
       mapped = λ s at n.
-          mapped_more _ _ _ _ _ (l.invariant.mapped s at n) (omega arith) (c.stored_at.ensures s at (n l.x t.loop-test.true));
+          mapped_more _ _ _ _ _ (l.invariant.mapped s at n) (omega arith) (c.stored_at.ensures s at (n l.x t.loop-x-test.true));
     }
 
-same_length : tie.Need-same-length invariant-loop decreases-loop
-same_length c = c.before.loop.invariant.same
+shape_of-part : tie.Need-shape_of-part invariant-loop-x decreases-loop-x
+shape_of-part c = c.before.loop-x.invariant.same
 
-returns : tie.Need-returns invariant-loop decreases-loop
+returns : tie.Need-returns invariant-loop-x decreases-loop-x
 unfolding stored
 returns c s at n =
     let a = (entry c.before).args in
-    let l = c.before.loop in
-    mapped_all (stored_at s at a.word a.value) a.part.now l.part l.x (l.invariant.mapped s at n) c.loop-test.false
+    let l = c.before.loop-x in
+    mapped_all (stored_at s at a.word a.value) a.part.now l.part l.x (l.invariant.mapped s at n) c.loop-x-test.false
 
-pub walk-spec : {M : Type 1} → statement M
-walk-spec =
+bounds-part-x : tie.Need-bounds-part-x invariant-loop-x decreases-loop-x
+bounds-part-x = search rules
+
+bounds-part-x-in-loop-x : tie.Need-bounds-part-x-in-loop-x invariant-loop-x decreases-loop-x
+bounds-part-x-in-loop-x = search rules
+
+overflow_step-x : tie.Need-overflow_step-x invariant-loop-x decreases-loop-x
+overflow_step-x = search rules
+
+loop-x-smaller : tie.Need-loop-x-smaller invariant-loop-x decreases-loop-x
+loop-x-smaller = search rules
+
+pub walk_spec : {M : Type 1} → statement M
+walk_spec =
     tie.close
-    (tie.spec invariant-loop decreases-loop loop-holds cast-stored-at (search rules) stored-at-requires (search rules) (search rules)
-    (search rules) loop-again same_length returns)
+    (tie.spec
+    invariant-loop-x
+    decreases-loop-x
+    loop-x-init
+    overflow_cast-x
+    bounds-part-x
+    stored_at-requires
+    bounds-part-x-in-loop-x
+    overflow_step-x
+    loop-x-smaller
+    loop-x-preserved
+    shape_of-part
+    returns)

@@ -1,0 +1,24 @@
+-- `redist_place` finds an entry's place in the Redistributor. Ways out: a word of a family, or nothing, for each kind of entry.
+use borrow.Author.Rules.{rules}
+use Rattle.register_list.specs.Entry.{place_in}
+use Rattle.register_list.proofs.redist_place.Goals as goal
+
+pub returns-in-Register : goal.returns-in-Register
+unfolding place_in
+returns-in-Register = λ c. rw c.in-Register.is c.redist_word.ensures
+
+pub returns-in-Extended : goal.returns-in-Extended
+unfolding place_in
+returns-in-Extended = λ c. rw c.in-Extended.is
+
+pub returns-in-Message : goal.returns-in-Message
+unfolding place_in
+returns-in-Message = λ c. rw c.in-Message.is
+
+pub returns-in-Typer : goal.returns-in-Typer
+unfolding place_in
+returns-in-Typer = λ c. rw c.in-Typer.is
+
+pub returns-in-None : goal.returns-in-None
+unfolding place_in
+returns-in-None = λ c. rw c.in-None.is
