@@ -1,70 +1,70 @@
--- `serve` is an access at its target. Two ways out: a read (returns), a write (returns-2).
+-- `serve` is an access at its target. Two ways out: a read (returns-in-Read), a write (returns-in-Write).
 use Rattle.engine.proofs.Rooms.{served_read, served_write}
 use borrow.Author.Rules.{rules}
 use Rattle.engine.proofs.dispatch.serve.Statement.{statement}
 use Rattle.engine.proofs.dispatch.serve.Tie as tie
 
-enum_told : tie.Need-enum-told
-enum_told c = search rules
+enum_told-1 : tie.Need-enum_told-1
+enum_told-1 c = search rules
 
 read-requires : tie.Need-read-requires
 read-requires c κs = search rules
 
-enum-told-2 : tie.Need-enum-told-2
-enum-told-2 c = search rules
+enum_told-in-Write : tie.Need-enum_told-in-Write
+enum_told-in-Write c = search rules
 
-value-of-requires : tie.Need-value-of-requires
-value-of-requires c κs = search rules
+value_of-value-requires : tie.Need-value_of-value-requires
+value_of-value-requires c κs = search rules
 
 write-requires : tie.Need-write-requires
 write-requires c κs = search rules
 
-same_length : tie.Need-same-length
-same_length c = search rules
+shape_of-dist-in-Read : tie.Need-shape_of-dist-in-Read
+shape_of-dist-in-Read c = search rules
 
-same-length-2 : tie.Need-same-length-2
-same-length-2 c = search rules
+shape_of-redist-in-Read : tie.Need-shape_of-redist-in-Read
+shape_of-redist-in-Read c = search rules
 
 -- in the arm of a read
 abbrev entry : tie.After-read → tie.Start
-entry c = c.before.before.before.before.before.before.before.before
+entry c = c.before.before.before.before.before
 
-returns : tie.Need-returns
-returns c at i n h =
+returns-in-Read : tie.Need-returns-in-Read
+returns-in-Read c at i n h =
     let a = (entry c).args in
     served_read a.shape a.request a.target a.presence.now a.dist.now a.redist.now at i
-    c.before.before.before.enum_told.given.1 _ (c.read.ensures at n)
+    c.in-Read.is _ (c.read.ensures at n)
 
-same-length-3 : tie.Need-same-length-3
-same-length-3 c = search rules
+shape_of-dist-in-Write : tie.Need-shape_of-dist-in-Write
+shape_of-dist-in-Write c = search rules
 
-same-length-4 : tie.Need-same-length-4
-same-length-4 c = search rules
+shape_of-redist-in-Write : tie.Need-shape_of-redist-in-Write
+shape_of-redist-in-Write c = search rules
 
 -- in the arm of a write
-abbrev start : tie.After-value-of → tie.Start
-start c = c.before.before.before.before.before.before
+abbrev start : tie.After-value_of-value → tie.Start
+start c = c.before.before.before.before.before
 
-returns-2 : tie.Need-returns-2
-returns-2 c at i n h =
+returns-in-Write : tie.Need-returns-in-Write
+returns-in-Write c at i n h =
     let w = c.before.before.before.before in
     let v = w.before.before.before in
     let a = (start v).args in
     served_write a.shape a.request a.target a.presence.now a.dist.now a.redist.now at i
-    v.before.enum-told2.given.1 _ v.value_of_lem.ensures _ _ (w.write.ensures at i n h)
+    v.in-Write.is _ v.value_of-value.ensures _ _ (w.write.ensures at i n h)
 
-pub serve-spec : {M : Type 1} → statement M
-serve-spec =
+pub serve_spec : {M : Type 1} → statement M
+serve_spec =
     tie.close
     (tie.spec
-    enum_told
+    enum_told-1
     read-requires
-    enum-told-2
-    value-of-requires
+    enum_told-in-Write
+    value_of-value-requires
     write-requires
-    same_length
-    same-length-2
-    returns
-    same-length-3
-    same-length-4
-    returns-2)
+    shape_of-dist-in-Read
+    shape_of-redist-in-Read
+    returns-in-Read
+    shape_of-dist-in-Write
+    shape_of-redist-in-Write
+    returns-in-Write)

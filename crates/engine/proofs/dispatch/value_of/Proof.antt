@@ -7,17 +7,21 @@ use Rattle.meaning.specs.Registers.{written_value}
 use Rattle.engine.proofs.dispatch.value_of.Statement.{statement}
 use Rattle.engine.proofs.dispatch.value_of.Tie as tie
 
-returns : tie.Need-returns
+returns-then-request-eq2 : tie.Need-returns-then-request-eq2
 unfolding written_value
-returns c =
-    let a = c.before.before.before.args.request in
-    sym (ap (λ (b : Bool). cond b (a.value % 65536) a.value) (eq-eqb a.width 2 c.before.if1.true))
+returns-then-request-eq2 c =
+    let a = c.args.request in
+    sym (ap (λ (b : Bool). cond b (a.value % 65536) a.value) (eq-eqb a.width 2 c.if-request-eq2.true))
 
-returns-2 : tie.Need-returns-2
+returns-else-request-eq2 : tie.Need-returns-else-request-eq2
 unfolding written_value
-returns-2 c =
-    let a = c.before.before.args.request in
-    sym (ap (λ (b : Bool). cond b (a.value % 65536) a.value) (ne_eqb a.width 2 c.if1.false))
+returns-else-request-eq2 c =
+    let a = c.args.request in
+    sym (ap (λ (b : Bool). cond b (a.value % 65536) a.value) (ne_eqb a.width 2 c.if-request-eq2.false))
 
-pub value-of-spec : {M : Type 1} → statement M
-value-of-spec = tie.close (tie.spec returns returns-2)
+pub value_of_spec : {M : Type 1} → statement M
+value_of_spec =
+    tie.close
+    (tie.spec
+    returns-then-request-eq2
+    returns-else-request-eq2)

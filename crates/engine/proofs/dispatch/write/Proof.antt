@@ -1,108 +1,108 @@
--- `write` leaves both tables as the target asks. Four ways out: a register word of the Distributor (returns) and of the Redistributor
--- (returns-2), TYPER (returns-3), a message register (returns-4).
+-- `write` leaves both tables as the target asks. Four ways out: a register word of the Distributor (returns-in-Dist) and of the Redistributor
+-- (returns-in-Redist), TYPER (returns-in-Typer), a message register (returns-in-Message).
 use Rattle.engine.proofs.Rooms.{dist_bank, redist_bank, message_bank, wrote_dist, wrote_redist, wrote_nothing, wrote_message}
 use borrow.Author.Rules.{rules}
 use Rattle.engine.proofs.dispatch.write.Statement.{statement}
 use Rattle.engine.proofs.dispatch.write.Tie as tie
 
 -- in the arm of a register word
-abbrev entry : tie.After-known-told → tie.Start
-entry c = c.before.before.before.before.before.before
+abbrev entry : tie.In-Digits → tie.Start
+entry c = c.before.before.before.before
 
 -- and of a message register
-abbrev entry-message : tie.After-known-told2 → tie.Start
-entry-message c = c.before.before.before.before.before.before
+abbrev entry-message : tie.In-Message → tie.Start
+entry-message c = c.before.before.before.before
 
-enum-known-target : tie.Need-enum-known-target
-enum-known-target c = search rules
+enum_known-target : tie.Need-enum_known-target
+enum_known-target c = search rules
 
-enum_told : tie.Need-enum-told
-enum_told c = search rules
+enum_told-1 : tie.Need-enum_told-1
+enum_told-1 c = search rules
 
-write-word-requires : tie.Need-write-word-requires
-write-word-requires c κs =
-    let k = c.before.before.before in
+write_word-requires : tie.Need-write_word-requires
+write_word-requires c κs =
+    let k = c.before.before in
     let e = entry k in
-    dist_bank e.args.shape e.args.target e.args.dist.now e.args.redist.now e.args.presence.now e.pre _
-    k.before.target.given.1 c.before.enum_told.given.1
+    dist_bank e.args.shape e.args.target e.args.dist.now e.args.redist.now e.args.presence.now e.requires _
+    k.in-Digits.is c.in-Dist.is
 
-enum-told-2 : tie.Need-enum-told-2
-enum-told-2 c = search rules
+enum_told-in-Redist : tie.Need-enum_told-in-Redist
+enum_told-in-Redist c = search rules
 
-write-word-requires-2 : tie.Need-write-word-requires-2
-write-word-requires-2 c κs =
-    let k = c.before.before.before in
+write_word-requires-in-Redist : tie.Need-write_word-requires-in-Redist
+write_word-requires-in-Redist c κs =
+    let k = c.before.before in
     let e = entry k in
-    redist_bank e.args.shape e.args.target e.args.dist.now e.args.redist.now e.args.presence.now e.pre _
-    k.before.target.given.1 c.before.enum-told2.given.1
+    redist_bank e.args.shape e.args.target e.args.dist.now e.args.redist.now e.args.presence.now e.requires _
+    k.in-Digits.is c.in-Redist.is
 
-enum-told-3 : tie.Need-enum-told-3
-enum-told-3 c = search rules
+enum_told-in-Typer : tie.Need-enum_told-in-Typer
+enum_told-in-Typer c = search rules
 
-enum-known-target-2 : tie.Need-enum-known-target-2
-enum-known-target-2 c = search rules
+enum_known-target-in-Message-1 : tie.Need-enum_known-target-in-Message-1
+enum_known-target-in-Message-1 c = search rules
 
 send-requires : tie.Need-send-requires
 send-requires c κs =
     let k = c.before in
     let e = entry-message k in
-    message_bank e.args.shape e.args.target e.args.dist.now e.args.redist.now e.args.presence.now e.pre _
-    k.before.target2.given.1
+    message_bank e.args.shape e.args.target e.args.dist.now e.args.redist.now e.args.presence.now e.requires _
+    k.in-Message.is
 
-same_length : tie.Need-same-length
-same_length c = search rules
+shape_of-dist-in-Dist : tie.Need-shape_of-dist-in-Dist
+shape_of-dist-in-Dist c = search rules
 
-returns : tie.Need-returns
-returns c at i n h =
+returns-in-Dist : tie.Need-returns-in-Dist
+returns-in-Dist c at i n h =
     let told = c.before.before.before.before in
-    let k = told.before.before in
+    let k = told.before in
     let a = (entry k).args in
     wrote_dist a.shape a.side a.target a.presence.now a.dist.now a.redist.now at a.value i _
-    k.before.target.given.1 told.enum_told.given.1 n _ (c.before.before.write_word.ensures at)
+    k.in-Digits.is told.in-Dist.is n _ (c.write_word.ensures at)
 
-same-length-2 : tie.Need-same-length-2
-same-length-2 c = search rules
+shape_of-redist : tie.Need-shape_of-redist
+shape_of-redist c = search rules
 
-returns-2 : tie.Need-returns-2
-returns-2 c at i n h =
+returns-in-Redist : tie.Need-returns-in-Redist
+returns-in-Redist c at i n h =
     let told = c.before.before.before.before in
-    let k = told.before.before in
+    let k = told.before in
     let a = (entry k).args in
     wrote_redist a.shape a.side a.target a.presence.now a.dist.now a.redist.now at a.value i _
-    k.before.target.given.1 told.enum-told2.given.1 n _ (c.before.before.write-word2.ensures at)
+    k.in-Digits.is told.in-Redist.is n _ (c.write_word-in-Redist.ensures at)
 
-returns-3 : tie.Need-returns-3
-returns-3 c at i n h =
-    let a = c.before.before.before.before.before.args in
+returns-in-Typer : tie.Need-returns-in-Typer
+returns-in-Typer c at i n h =
+    let a = c.args in
     wrote_nothing a.shape a.side a.target a.presence.now a.dist.now a.redist.now at a.value i
-    c.enum-told3.given.1
+    c.in-Typer.is
 
-same-length-3 : tie.Need-same-length-3
-same-length-3 c = search rules
+shape_of-dist-in-Message : tie.Need-shape_of-dist-in-Message
+shape_of-dist-in-Message c = search rules
 
-returns-4 : tie.Need-returns-4
-returns-4 c at i n h =
+returns-in-Message : tie.Need-returns-in-Message
+returns-in-Message c at i n h =
     let k = c.before.before.before.before in
     let a = (entry-message k).args in
     wrote_message a.shape a.side a.target a.presence.now a.dist.now a.redist.now at a.value i _
-    k.before.target2.given.1 _ (c.before.before.send.ensures i h)
+    k.in-Message.is _ (c.send.ensures i h)
 
 pub write_spec : {M : Type 1} → statement M
 write_spec =
     tie.close
     (tie.spec
-    enum-known-target
-    enum_told
-    write-word-requires
-    enum-told-2
-    write-word-requires-2
-    enum-told-3
-    enum-known-target-2
+    enum_known-target
+    enum_told-1
+    write_word-requires
+    enum_told-in-Redist
+    write_word-requires-in-Redist
+    enum_told-in-Typer
+    enum_known-target-in-Message-1
     send-requires
-    same_length
-    returns
-    same-length-2
-    returns-2
-    returns-3
-    same-length-3
-    returns-4)
+    shape_of-dist-in-Dist
+    returns-in-Dist
+    shape_of-redist
+    returns-in-Redist
+    returns-in-Typer
+    shape_of-dist-in-Message
+    returns-in-Message)

@@ -1,5 +1,5 @@
--- `send` delivers at the slot of the INTID that the value names. Three ways out: no messages (returns), a slot (returns-2), no slot
--- (returns-3).
+-- `send` delivers at the slot of the INTID that the value names. Three ways out: no messages (returns-then-not-shape), a slot (returns-then-start-span), no slot
+-- (returns-else-start-span).
 use mathlib.Core.Path.{ap, ◌∙◌}
 use Prim.Native.Nat.{◌%◌}
 use native.Mathlib.Omega.{arith}
@@ -16,72 +16,72 @@ use Rattle.engine.proofs.message.send.Statement.{statement}
 use Rattle.engine.proofs.message.send.Tie as tie
 
 -- once the span is known
-abbrev entry : tie.After-span-of → tie.Start
+abbrev entry : tie.After-span_of-span → tie.Start
 entry c = c.before.before.before.before.before
 
-abbrev P : tie.After-span-of → Span
-P c = c.Span-of.result
+abbrev P : tie.After-span_of-span → Span
+P c = c.span_of-span.result
 
-inside : (c : tie.After-span-of) → Bounded Dist 1 (P c)
+inside : (c : tie.After-span_of-span) → Bounded Dist 1 (P c)
 inside c =
     let e = entry c in
-    asked e.args.shape Dist e.args.records.now e.args.presence.now (e.args.value % 8192) 1 (P c) e.pre (omega arith)
-    c.Span-of.ensures
+    asked e.args.shape Dist e.args.records.now e.args.presence.now (e.args.value % 8192) 1 (P c) e.requires (omega arith)
+    c.span_of-span.ensures
 
-returns : tie.Need-returns
-returns c i h =
+returns-then-not-shape : tie.Need-returns-then-not-shape
+returns-then-not-shape c i h =
     let e = c.before.before.before.before in
-    sent_off e.args.shape e.args.side e.args.message i _ e.args.records.now (not-true _ c.if1.true)
+    sent_off e.args.shape e.args.side e.args.message i _ e.args.records.now (not-true _ c.if-not-shape.true)
 
-span-of-requires : tie.Need-span-of-requires
-span-of-requires c κs = search rules
+span_of-span-requires : tie.Need-span_of-span-requires
+span_of-span-requires c κs = search rules
 
-slice-read-deliver : tie.Need-slice-read-deliver
-slice-read-deliver c =
+bounds-records-start : tie.Need-bounds-records-start
+bounds-records-start c =
     let s = c.before.before.before.before in
     let b = (inside s).inside in
     let l = (entry s).requires.slots_lent in
-    let t = c.before.if2.true in omega arith
+    let t = c.if-start-span.true in omega arith
 
 deliver-requires : tie.Need-deliver-requires
 deliver-requires c κs = search rules
 
-slice-write-records : tie.Need-slice-write-records
-slice-write-records c =
+bounds-records-start-then-start-span : tie.Need-bounds-records-start-then-start-span
+bounds-records-start-then-start-span c =
     let s = c.before.before.before.before.before in
     let b = (inside s).inside in
     let l = (entry s).requires.slots_lent in
-    let t = c.before.before.if2.true in omega arith
+    let t = c.if-start-span.true in omega arith
 
-same_length : tie.Need-same-length
-same_length c = search rules
+shape_of-records : tie.Need-shape_of-records
+shape_of-records c = search rules
 
-returns-2 : tie.Need-returns-2
-returns-2 c i h =
+returns-then-start-span : tie.Need-returns-then-start-span
+returns-then-start-span c i h =
     let s = c.before.before.before.before.before in
     let a = (entry s).args in
     ap (set a.records.now (P s).start) (c.deliver.ensures a.shape i h)
-    ∙ (at_slot (delivered a.shape a.side a.message i) (P s) a.records.now c.before.before.if2.true
-    ∙ (sent_on a.shape a.side a.message i (P s) a.records.now (not-false _ s.before.if1.false)
-    ∙ ap (λ (p : Span). sent_in a.shape a.side a.message i p a.records.now) s.Span-of.ensures))
+    ∙ (at_slot (delivered a.shape a.side a.message i) (P s) a.records.now c.if-start-span.true
+    ∙ (sent_on a.shape a.side a.message i (P s) a.records.now (not-false _ s.if-not-shape.false)
+    ∙ ap (λ (p : Span). sent_in a.shape a.side a.message i p a.records.now) s.span_of-span.ensures))
 
-returns-3 : tie.Need-returns-3
-returns-3 c i h =
+returns-else-start-span : tie.Need-returns-else-start-span
+returns-else-start-span c i h =
     let s = c.before.before.before in
     let a = (entry s).args in
-    at_none (delivered a.shape a.side a.message i) (P s) a.records.now c.if2.false
-    ∙ (sent_on a.shape a.side a.message i (P s) a.records.now (not-false _ s.before.if1.false)
-    ∙ ap (λ (p : Span). sent_in a.shape a.side a.message i p a.records.now) s.Span-of.ensures)
+    at_none (delivered a.shape a.side a.message i) (P s) a.records.now c.if-start-span.false
+    ∙ (sent_on a.shape a.side a.message i (P s) a.records.now (not-false _ s.if-not-shape.false)
+    ∙ ap (λ (p : Span). sent_in a.shape a.side a.message i p a.records.now) s.span_of-span.ensures)
 
-pub send-spec : {M : Type 1} → statement M
-send-spec =
+pub send_spec : {M : Type 1} → statement M
+send_spec =
     tie.close
     (tie.spec
-    returns
-    span-of-requires
-    slice-read-deliver
+    returns-then-not-shape
+    span_of-span-requires
+    bounds-records-start
     deliver-requires
-    slice-write-records
-    same_length
-    returns-2
-    returns-3)
+    bounds-records-start-then-start-span
+    shape_of-records
+    returns-then-start-span
+    returns-else-start-span)

@@ -9,44 +9,44 @@ use mathlib.Core.Path.{refl}
 use Rattle.engine.proofs.reset.clear.Statement.{statement}
 use Rattle.engine.proofs.reset.clear.Tie as tie
 
-abbrev invariant-loop : tie.invariant-loop
-invariant-loop records₀ k₀ k-end records k = (k ≤ length records₀) × Mapped zeroed records₀ records k
+abbrev invariant-loop-k : tie.invariant-loop-k
+invariant-loop-k records₀ k₀ k-end records k = (k ≤ length records₀) × Mapped zeroed records₀ records k
 
-abbrev decreases-loop : tie.decreases-loop
-decreases-loop records₀ k₀ k-end records k = length records₀ - k
+abbrev decreases-loop-k : tie.decreases-loop-k
+decreases-loop-k records₀ k₀ k-end records k = length records₀ - k
 
-loop-holds : tie.Need-loop-init invariant-loop decreases-loop
-loop-holds c = (omega arith, mapped_none _ _)
+loop-k-init : tie.Need-loop-k-init invariant-loop-k decreases-loop-k
+loop-k-init c = (omega arith, mapped_none _ _)
 
-slice-write-records : tie.Need-slice-write-records invariant-loop decreases-loop
-slice-write-records c = let s = c.before.loop.invariant.1.same in omega arith
+bounds-records-k : tie.Need-bounds-records-k invariant-loop-k decreases-loop-k
+bounds-records-k c = let s = c.loop-k.invariant.1.same in omega arith
 
-add-k : tie.Need-overflow-add-k invariant-loop decreases-loop
-add-k c = search rules
+overflow_step-k : tie.Need-overflow_step-k invariant-loop-k decreases-loop-k
+overflow_step-k c = search rules
 
-loop-less : tie.Need-loop-smaller invariant-loop decreases-loop
-loop-less c = search rules
+loop-k-smaller : tie.Need-loop-k-smaller invariant-loop-k decreases-loop-k
+loop-k-smaller c = search rules
 
-loop-again : tie.Need-loop-preserved invariant-loop decreases-loop
-loop-again c =
-    let h = c.before.loop.invariant.1 in (omega arith, mapped_more zeroed _ _ _ _ h (let s = h.same in omega arith) refl)
+loop-k-preserved : tie.Need-loop-k-preserved invariant-loop-k decreases-loop-k
+loop-k-preserved c =
+    let h = c.loop-k.invariant.1 in (omega arith, mapped_more zeroed _ _ _ _ h (let s = h.same in omega arith) refl)
 
-same_length : tie.Need-same-length invariant-loop decreases-loop
-same_length c = c.before.loop.invariant.1.same
+shape_of-records : tie.Need-shape_of-records invariant-loop-k decreases-loop-k
+shape_of-records c = c.loop-k.invariant.1.same
 
-returns : tie.Need-returns invariant-loop decreases-loop
-returns c = mapped_all zeroed _ _ _ c.before.loop.invariant.1 c.loop-test.false
+returns : tie.Need-returns invariant-loop-k decreases-loop-k
+returns c = mapped_all zeroed _ _ _ c.loop-k.invariant.1 c.loop-k-test.false
 
 pub clear_spec : {M : Type 1} → statement M
 clear_spec =
     tie.close
     (tie.spec
-    invariant-loop
-    decreases-loop
-    loop-holds
-    slice-write-records
-    add-k
-    loop-less
-    loop-again
-    same_length
+    invariant-loop-k
+    decreases-loop-k
+    loop-k-init
+    bounds-records-k
+    overflow_step-k
+    loop-k-smaller
+    loop-k-preserved
+    shape_of-records
     returns)

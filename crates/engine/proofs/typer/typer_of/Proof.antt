@@ -16,70 +16,70 @@ record Small (lines espi mbis range : ℕ) : Type 0 where
   mbis_small : mbis ≤ 1
   range_small : range ≤ 31
 
-abbrev entry : tie.After-range-of → tie.Start
+abbrev entry : tie.After-range_of-range → tie.Start
 entry c = c.before.before.before.before
 
-small : (c : tie.After-range-of)
-    → Small (entry c).args.shape.lines c.before.before.flag.result c.before.flag2.result c.range-of.result
+small : (c : tie.After-range_of-range)
+    → Small (entry c).args.shape.lines c.flag-espi.result c.flag-mbis.result c.range_of-range.result
 small c =
     let s = (entry c).args.shape in
     let l = limits s (entry c).requires in
     let espi = l.espi_at_most in
-    let e1 = c.before.before.flag.ensures in
+    let e1 = c.flag-espi.ensures in
     let s1 = digit_small (ltb 0 s.espi) in
-    let e2 = c.before.flag2.ensures in
+    let e2 = c.flag-mbis.ensures in
     let s2 = digit_small s.mbis in
-    let e3 = c.range-of.ensures in
+    let e3 = c.range_of-range.ensures in
     record { lines_small = l.lines_at_most; espi_small = omega arith; mbis_small = omega arith; range_small = omega arith }
 
-flag-requires : tie.Need-flag-requires
-flag-requires c κs = search rules
+flag-espi-requires : tie.Need-flag-espi-requires
+flag-espi-requires c κs = search rules
 
-mul-espi : tie.Need-overflow-mul-espi
-mul-espi c =
-    let e = c.flag.ensures in let s = digit_small (ltb 0 c.before.before.args.shape.espi) in record { fits = omega arith }
+overflow_mul-espi : tie.Need-overflow_mul-espi
+overflow_mul-espi c =
+    let e = c.flag-espi.ensures in let s = digit_small (ltb 0 c.args.shape.espi) in record { fits = omega arith }
 
-flag-requires-2 : tie.Need-flag-requires-2
-flag-requires-2 c κs = search rules
+flag-mbis-requires : tie.Need-flag-mbis-requires
+flag-mbis-requires c κs = search rules
 
-mul-mbis : tie.Need-overflow-mul-mbis
-mul-mbis c =
-    let e = c.flag2.ensures in let s = digit_small c.before.before.before.args.shape.mbis in record { fits = omega arith }
+overflow_mul-mbis : tie.Need-overflow_mul-mbis
+overflow_mul-mbis c =
+    let e = c.flag-mbis.ensures in let s = digit_small c.args.shape.mbis in record { fits = omega arith }
 
-range-of-requires : tie.Need-range-of-requires
-range-of-requires c κs = search rules
+range_of-range-requires : tie.Need-range_of-range-requires
+range_of-range-requires c κs = search rules
 
-mul-range : tie.Need-overflow-mul-range
-mul-range c = let r = (small c).range_small in record { fits = omega arith }
+overflow_mul-range : tie.Need-overflow_mul-range
+overflow_mul-range c = let r = (small c).range_small in record { fits = omega arith }
 
-add-result : tie.Need-overflow-add-result
-add-result c =
+overflow_add-result : tie.Need-overflow_add-result
+overflow_add-result c =
     let h = small c.before in let l = h.lines_small in let e = h.espi_small in record { fits = omega arith }
 
-add-result-2 : tie.Need-overflow-add-result-2
-add-result-2 c =
+overflow_add-result-2 : tie.Need-overflow_add-result-2
+overflow_add-result-2 c =
     let h = small c.before in let l = h.lines_small in let e = h.espi_small in record { fits = omega arith }
 
-add-result-3 : tie.Need-overflow-add-result-3
-add-result-3 c =
+overflow_add-result-3 : tie.Need-overflow_add-result-3
+overflow_add-result-3 c =
     let h = small c.before in
     let l = h.lines_small in let e = h.espi_small in let m = h.mbis_small in record { fits = omega arith }
 
-mul-result : tie.Need-overflow-mul-result
-mul-result c = search rules
+overflow_mul-result : tie.Need-overflow_mul-result
+overflow_mul-result c = search rules
 
-add-result-4 : tie.Need-overflow-add-result-4
-add-result-4 c =
+overflow_add-result-4 : tie.Need-overflow_add-result-4
+overflow_add-result-4 c =
     let h = small c.before in
     let l = h.lines_small in let e = h.espi_small in let m = h.mbis_small in record { fits = omega arith }
 
-add-result-5 : tie.Need-overflow-add-result-5
-add-result-5 c =
+overflow_add-result-5 : tie.Need-overflow_add-result-5
+overflow_add-result-5 c =
     let h = small c.before in
     let l = h.lines_small in let e = h.espi_small in let m = h.mbis_small in record { fits = omega arith }
 
-add-result-6 : tie.Need-overflow-add-result-6
-add-result-6 c =
+overflow_add-result-6 : tie.Need-overflow_add-result-6
+overflow_add-result-6 c =
     let h = small c.before in
     let l = h.lines_small in
     let e = h.espi_small in let m = h.mbis_small in let r = h.range_small in record { fits = omega arith }
@@ -87,23 +87,23 @@ add-result-6 c =
 returns : tie.Need-returns
 unfolding typer
 returns c =
-    let k = c.before in rw (← k.before.before.flag.ensures, ← k.before.flag2.ensures, ← k.range-of.ensures)
+    let k = c.before in rw (← k.flag-espi.ensures, ← k.flag-mbis.ensures, ← k.range_of-range.ensures)
 
-pub typer-of-spec : {M : Type 1} → statement M
-typer-of-spec =
+pub typer_of_spec : {M : Type 1} → statement M
+typer_of_spec =
     tie.close
     (tie.spec
-    flag-requires
-    mul-espi
-    flag-requires-2
-    mul-mbis
-    range-of-requires
-    mul-range
-    add-result
-    add-result-2
-    add-result-3
-    mul-result
-    add-result-4
-    add-result-5
-    add-result-6
+    flag-espi-requires
+    overflow_mul-espi
+    flag-mbis-requires
+    overflow_mul-mbis
+    range_of-range-requires
+    overflow_mul-range
+    overflow_add-result
+    overflow_add-result-2
+    overflow_add-result-3
+    overflow_mul-result
+    overflow_add-result-4
+    overflow_add-result-5
+    overflow_add-result-6
     returns)

@@ -1,50 +1,50 @@
--- `part` lends the records of a span: the slice lies inside the bank's records in either frame. Two ways out: the Distributor's (returns)
--- and the Redistributor's (returns-2).
+-- `part` lends the records of a span: the slice lies inside the bank's records in either frame. Two ways out: the Distributor's (returns-in-Dist)
+-- and the Redistributor's (returns-in-Redist).
 use borrow.Author.Rules.{rules}
 use Rattle.engine.proofs.word.part.Statement.{statement}
 use Rattle.engine.proofs.word.part.Tie as tie
 
-enum_told : tie.Need-enum-told
-enum_told c = search rules
+enum_told-1 : tie.Need-enum_told-1
+enum_told-1 c = search rules
 
-sub-result : tie.Need-overflow-sub-result
-sub-result c = search rules
+slice_bounds-result-count : tie.Need-slice_bounds-result-count
+slice_bounds-result-count c = search rules
 
-part-result-start : tie.Need-slice-bounds-result-start
-part-result-start c = search rules
+slice_bounds-result-start : tie.Need-slice_bounds-result-start
+slice_bounds-result-start c = search rules
 
-part-result-end : tie.Need-slice-bounds-result-end
-part-result-end c = rw c.enum_told.given.1 at c.before.before.requires.1
+slice_bounds-result-end : tie.Need-slice_bounds-result-end
+slice_bounds-result-end c = rw c.in-Dist.is at c.requires.1
 
-enum-told-2 : tie.Need-enum-told-2
-enum-told-2 c = search rules
+enum_told-in-Redist : tie.Need-enum_told-in-Redist
+enum_told-in-Redist c = search rules
 
-sub-result-2 : tie.Need-overflow-sub-result-2
-sub-result-2 c = search rules
+slice_bounds-result-count-in-Redist : tie.Need-slice_bounds-result-count-in-Redist
+slice_bounds-result-count-in-Redist c = search rules
 
-part-result-start-2 : tie.Need-slice-bounds-result-start-2
-part-result-start-2 c = search rules
+slice_bounds-result-start-in-Redist : tie.Need-slice_bounds-result-start-in-Redist
+slice_bounds-result-start-in-Redist c = search rules
 
-part-result-end-2 : tie.Need-slice-bounds-result-end-2
-part-result-end-2 c = rw c.enum-told2.given.1 at c.before.before.requires.1
+slice_bounds-result-end-in-Redist : tie.Need-slice_bounds-result-end-in-Redist
+slice_bounds-result-end-in-Redist c = rw c.in-Redist.is at c.requires.1
 
-returns : tie.Need-returns
-returns c = rw c.before.enum_told.given.1
+returns-in-Dist : tie.Need-returns-in-Dist
+returns-in-Dist c = rw c.in-Dist.is
 
-returns-2 : tie.Need-returns-2
-returns-2 c = rw c.before.enum-told2.given.1
+returns-in-Redist : tie.Need-returns-in-Redist
+returns-in-Redist c = rw c.in-Redist.is
 
-pub part-spec : {M : Type 1} → statement M
-part-spec =
+pub part_spec : {M : Type 1} → statement M
+part_spec =
     tie.close
     (tie.spec
-    enum_told
-    sub-result
-    part-result-start
-    part-result-end
-    enum-told-2
-    sub-result-2
-    part-result-start-2
-    part-result-end-2
-    returns
-    returns-2)
+    enum_told-1
+    slice_bounds-result-count
+    slice_bounds-result-start
+    slice_bounds-result-end
+    enum_told-in-Redist
+    slice_bounds-result-count-in-Redist
+    slice_bounds-result-start-in-Redist
+    slice_bounds-result-end-in-Redist
+    returns-in-Dist
+    returns-in-Redist)

@@ -15,31 +15,31 @@ use Rattle.engine.proofs.word.read_word.Statement.{statement}
 use Rattle.engine.proofs.word.read_word.Tie as tie
 
 -- once the span is known
-abbrev entry : tie.After-span-of → tie.Start
+abbrev entry : tie.After-span_of-span → tie.Start
 entry c = c.before.before.before.before
 
-abbrev P : tie.After-span-of → Span
-P c = c.Span-of.result
+abbrev P : tie.After-span_of-span → Span
+P c = c.span_of-span.result
 
-abbrev W : tie.After-span-of → Window
+abbrev W : tie.After-span_of-span → Window
 W c = (entry c).args.window
 
-abbrev X : tie.After-span-of → List ℕ
+abbrev X : tie.After-span_of-span → List ℕ
 X c = records_of (W c).frame (lent (entry c).args.dist.now (entry c).args.redist.now [] [])
 
-bounds : (c : tie.After-span-of) → Bounded (W c).frame (W c).count (P c)
+bounds : (c : tie.After-span_of-span) → Bounded (W c).frame (W c).count (P c)
 bounds c =
     let e = entry c in
-    asked e.args.shape (W c).frame (X c) e.args.presence.now (W c).first (W c).count (P c) e.pre.0 e.pre.1.block
-    c.Span-of.ensures
+    asked e.args.shape (W c).frame (X c) e.args.presence.now (W c).first (W c).count (P c) e.requires.0 e.requires.1.block
+    c.span_of-span.ensures
 
-span-of-requires : tie.Need-span-of-requires
-span-of-requires c κs = search rules
+span_of-span-requires : tie.Need-span_of-span-requires
+span_of-span-requires c κs = search rules
 
 part-requires : tie.Need-part-requires
 part-requires c κs =
     let e = entry c in
-    ((bounds c).ordered, end_inside e.args.shape (W c).frame (X c) e.args.presence.now (W c).count (P c) e.pre.0 (bounds c))
+    ((bounds c).ordered, end_inside e.args.shape (W c).frame (X c) e.args.presence.now (W c).count (P c) e.requires.0 (bounds c))
 
 gather-requires : tie.Need-gather-requires
 gather-requires c κs =
@@ -57,7 +57,13 @@ returns c at n =
     (subst (λ (xs : List ℕ). Numbered (length xs) (W s).first at) (sym r.part.ensures)
     (fewer (W s) (P s) (X s) at (bounds s).short n))
     ∙ (ap (gathered a.shape at (word_of a.side (W s) (P s))) r.part.ensures
-    ∙ ap (λ (p : Span). read_in a.shape at a.side (W s) p (X s)) s.Span-of.ensures)
+    ∙ ap (λ (p : Span). read_in a.shape at a.side (W s) p (X s)) s.span_of-span.ensures)
 
-pub read-word-spec : {M : Type 1} → statement M
-read-word-spec = tie.close (tie.spec span-of-requires part-requires gather-requires returns)
+pub read_word_spec : {M : Type 1} → statement M
+read_word_spec =
+    tie.close
+    (tie.spec
+    span_of-span-requires
+    part-requires
+    gather-requires
+    returns)

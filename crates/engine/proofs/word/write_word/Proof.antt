@@ -13,44 +13,44 @@ use Rattle.engine.proofs.word.write_word.Statement.{statement}
 use Rattle.engine.proofs.word.write_word.Tie as tie
 
 -- once the span is known
-abbrev entry : tie.After-span-of → tie.Start
+abbrev entry : tie.After-span_of-span → tie.Start
 entry c = c.before.before.before
 
-abbrev P : tie.After-span-of → Span
-P c = c.Span-of.result
+abbrev P : tie.After-span_of-span → Span
+P c = c.span_of-span.result
 
-abbrev W : tie.After-span-of → Window
+abbrev W : tie.After-span_of-span → Window
 W c = (entry c).args.window
 
-abbrev X : tie.After-span-of → List ℕ
+abbrev X : tie.After-span_of-span → List ℕ
 X c = (entry c).args.records.now
 
-bounds : (c : tie.After-span-of) → Bounded (W c).frame (W c).count (P c)
+bounds : (c : tie.After-span_of-span) → Bounded (W c).frame (W c).count (P c)
 bounds c =
     let e = entry c in
-    asked e.args.shape (W c).frame (X c) e.args.presence.now (W c).first (W c).count (P c) e.pre.0 e.pre.1.block
-    c.Span-of.ensures
+    asked e.args.shape (W c).frame (X c) e.args.presence.now (W c).first (W c).count (P c) e.requires.0 e.requires.1.block
+    c.span_of-span.ensures
 
-span-of-requires : tie.Need-span-of-requires
-span-of-requires c κs = search rules
+span_of-span-requires : tie.Need-span_of-span-requires
+span_of-span-requires c κs = search rules
 
-sub-store : tie.Need-overflow-sub-store
-sub-store c = (bounds c).ordered
+slice_bounds-store-count : tie.Need-slice_bounds-store-count
+slice_bounds-store-count c = (bounds c).ordered
 
-part-store-start : tie.Need-slice-bounds-store-start
-part-store-start c = (bounds c).ordered
+slice_bounds-store-start : tie.Need-slice_bounds-store-start
+slice_bounds-store-start c = (bounds c).ordered
 
-part-store-end : tie.Need-slice-bounds-store-end
-part-store-end c =
+slice_bounds-store-end : tie.Need-slice_bounds-store-end
+slice_bounds-store-end c =
     let e = entry c in
-    end_inside e.args.shape (W c).frame (X c) e.args.presence.now (W c).count (P c) e.pre.0 (bounds c)
+    end_inside e.args.shape (W c).frame (X c) e.args.presence.now (W c).count (P c) e.requires.0 (bounds c)
 
 store-requires : tie.Need-store-requires
 store-requires c κs =
     let s = c.before in fitting (W s) (entry s).requires.1 (entry s).args.side (P s) (X s) (bounds s).short
 
-same_length : tie.Need-same-length
-same_length c = search rules
+shape_of-records : tie.Need-shape_of-records
+shape_of-records c = search rules
 
 returns : tie.Need-returns
 unfolding written_in
@@ -59,10 +59,17 @@ returns c at n =
     let a = (entry s).args in
     let p = P s in
     ap (λ (ys : List ℕ). take p.start (X s) ++ (ys ++ drop (p.end - p.start) (drop p.start (X s))))
-    (c.before.before.store.ensures a.shape at (fewer (W s) p (X s) at (bounds s).short n))
-    ∙ ap (λ (q : Span). written_in a.shape at a.side (W s) a.value q (X s)) s.Span-of.ensures
+    (c.store.ensures a.shape at (fewer (W s) p (X s) at (bounds s).short n))
+    ∙ ap (λ (q : Span). written_in a.shape at a.side (W s) a.value q (X s)) s.span_of-span.ensures
 
-pub write-word-spec : {M : Type 1} → statement M
-write-word-spec =
+pub write_word_spec : {M : Type 1} → statement M
+write_word_spec =
     tie.close
-    (tie.spec span-of-requires sub-store part-store-start part-store-end store-requires same_length returns)
+    (tie.spec
+    span_of-span-requires
+    slice_bounds-store-count
+    slice_bounds-store-start
+    slice_bounds-store-end
+    store-requires
+    shape_of-records
+    returns)
