@@ -1,5 +1,5 @@
--- `access` is `stepped`. Four ways out: refusal 1 (returns), refusals 2 to 6 (returns-2), the Distributor frame (returns-3), the
--- Redistributor frame (returns-4).
+-- `access` is `stepped`. Four ways out: refusal 1 (returns-then-not-well_formed), refusals 2 to 6 (returns-in_default), the Distributor frame (returns-in-Dist), the
+-- Redistributor frame (returns-in-Redist).
 use mathlib.Core.Path.{◌≡◌, refl, sym, ap, ◌∙◌}
 use mathlib.Core.Bool.{true}
 use borrow.Author.Tests.{not-true, not-false}
@@ -19,141 +19,141 @@ use Rattle.controller.proofs.access.Statement.{statement}
 use Rattle.controller.proofs.access.Tie as tie
 
 abbrev T : tie.Start → Tables
-T e = lent e.args.dist.now e.args.redist.now e.args.dist-presence.now e.args.redist-presence.now
+T e = lent e.args.dist.now e.args.redist.now e.args.dist_presence.now e.args.redist_presence.now
 
 -- once refusal 1 is judged
-abbrev entry : tie.After-well-formed → tie.Start
+abbrev entry : tie.After-well_formed-2 → tie.Start
 entry c = c.before.before.before.before.before
 
 -- once the access is decoded: the tables are well-formed
-abbrev start : tie.After-place-of → tie.Start
+abbrev start : tie.After-place_of-found → tie.Start
 start c = entry c.before.before
 
-well : (c : tie.After-place-of) → well_formed (start c).args.shape (T (start c)) ≡ true
+well : (c : tie.After-place_of-found) → well_formed (start c).args.shape (T (start c)) ≡ true
 well c =
     let w = c.before.before in
-    sym (w.well-formed-2.ensures (T (entry w)) refl refl refl refl) ∙ not-false w.well-formed-2.result c.before.if1.false
+    sym (w.well_formed-2.ensures (T (entry w)) refl refl refl refl) ∙ c.if-not-well_formed.false
 
 -- once the place is known
-abbrev found : tie.After-known-told → tie.After-place-of
-found c = c.before.before.before
+abbrev found : tie.In-At → tie.After-place_of-found
+found c = c.before
 
-abbrev P : tie.After-known-told → Place
-P c = c.before.found.given.0.0
+abbrev P : tie.In-At → Place
+P c = c.in-At.place
 
-placed : (c : tie.After-known-told) → place_of (start (found c)).args.request ≡ decoded.At (P c)
-placed c = sym (found c).place_of.ensures ∙ c.before.found.given.1
+placed : (c : tie.In-At) → place_of (start (found c)).args.request ≡ decoded.At (P c)
+placed c = sym (found c).place_of-found.ensures ∙ c.in-At.is
 
 -- once its target is known
-abbrev known : tie.After-target-of → tie.After-known-told
+abbrev known : tie.After-target_of-target → tie.In-At
 known c = c.before
 
-abbrev first : tie.After-target-of → tie.Start
+abbrev first : tie.After-target_of-target → tie.Start
 first c = start (found (known c))
 
-room : (c : tie.After-target-of) (f : Frame) → (first c).args.request.frame ≡ f
-    → Room (first c).args.shape c.target-of.result (first c).args.dist.now (first c).args.redist.now
+room : (c : tie.After-target_of-target) (f : Frame) → (first c).args.request.frame ≡ f
+    → Room (first c).args.shape c.target_of-target.result (first c).args.dist.now (first c).args.redist.now
     (presence_of f (T (first c)))
 room c f here =
     let e = first c in
-    target_room e.args.shape (T e) (well (found (known c))) e.args.request (P (known c)) (placed (known c)) c.target-of.result
-    c.target-of.ensures f here
+    target_room e.args.shape (T e) (well (found (known c))) e.args.request (P (known c)) (placed (known c)) c.target_of-target.result
+    c.target_of-target.ensures f here
 
-well-formed-requires : tie.Need-well-formed-requires
-well-formed-requires c κs = search rules
+well_formed-requires : tie.Need-well_formed-requires
+well_formed-requires c κs = search rules
 
-returns : tie.Need-returns
-returns c =
+returns-then-not-well_formed : tie.Need-returns-then-not-well_formed
+returns-then-not-well_formed c =
     let w = c.before in
     let e = entry w in
     ill e.args.shape (access e.args.request) (T e)
-    (sym (w.well-formed-2.ensures (T e) refl refl refl refl) ∙ not-true w.well-formed-2.result c.if1.true)
+    (sym (w.well_formed-2.ensures (T e) refl refl refl refl) ∙ c.if-not-well_formed.true)
 
-place-of-requires : tie.Need-place-of-requires
-place-of-requires c κs = search rules
+place_of-found-requires : tie.Need-place_of-found-requires
+place_of-found-requires c κs = search rules
 
-enum-known-found : tie.Need-enum-known-found
-enum-known-found c = search rules
+enum_known-found : tie.Need-enum_known-found
+enum_known-found c = search rules
 
-enum_told : tie.Need-enum-told
-enum_told c = search rules
+enum_told-1 : tie.Need-enum_told-1
+enum_told-1 c = search rules
 
 refused-requires : tie.Need-refused-requires
 refused-requires c κs = search rules
 
-returns-2 : tie.Need-returns-2
-returns-2 c =
-    let p = c.before.before.before in
+returns-in_default : tie.Need-returns-in_default
+returns-in_default c =
+    let p = c.before.before in
     let e = start p in
-    rw (c.refused.ensures _ c.before.enum_told.given.1)
-    (access_refused e.args.shape (T e) (well p) e.args.request _ (sym p.place_of.ensures ∙ c.before.enum_told.given.1))
+    rw (c.refused.ensures _ c.in_default.is)
+    (access_refused e.args.shape (T e) (well p) e.args.request _ (sym p.place_of-found.ensures ∙ c.in_default.is))
 
-target-of-requires : tie.Need-target-of-requires
-target-of-requires c κs = placed_number (start (found c)).args.request (P c) (placed c)
+target_of-target-requires : tie.Need-target_of-target-requires
+target_of-target-requires c κs = placed_number (start (found c)).args.request (P c) (placed c)
 
-enum-told-2 : tie.Need-enum-told-2
-enum-told-2 c = search rules
+enum_told-in-Dist : tie.Need-enum_told-in-Dist
+enum_told-in-Dist c = search rules
 
 serve-requires : tie.Need-serve-requires
-serve-requires c κs = room c.before.before.before.before Dist c.before.before.enum-told2.given.1
+serve-requires c κs = room c.before.before.before Dist c.in-Dist.is
 
-enum-told-3 : tie.Need-enum-told-3
-enum-told-3 c = search rules
+enum_told-in-Redist : tie.Need-enum_told-in-Redist
+enum_told-in-Redist c = search rules
 
-serve-requires-2 : tie.Need-serve-requires-2
-serve-requires-2 c κs = room c.before.before.before.before Redist c.before.before.enum-told3.given.1
+serve-requires-in-Redist : tie.Need-serve-requires-in-Redist
+serve-requires-in-Redist c κs = room c.before.before.before Redist c.in-Redist.is
 
-same_length : tie.Need-same-length
-same_length c = search rules
+shape_of-dist-in-Dist : tie.Need-shape_of-dist-in-Dist
+shape_of-dist-in-Dist c = search rules
 
-same-length-2 : tie.Need-same-length-2
-same-length-2 c = search rules
+shape_of-redist-in-Dist : tie.Need-shape_of-redist-in-Dist
+shape_of-redist-in-Dist c = search rules
 
-returns-3 : tie.Need-returns-3
-returns-3 c =
+returns-in-Dist : tie.Need-returns-in-Dist
+returns-in-Dist c =
     let w = c.before.before.before.before in
     let told = w.before.before.before in
-    let k = told.before.before in
+    let k = told.before in
     let e = first k in
     access_served e.args.shape (T e) (well (found (known k))) e.args.request (P (known k)) (placed (known k))
-    k.target-of.result k.target-of.ensures _ (ap (λ (f : Frame). presence_of f (T e)) (sym told.enum-told2.given.1)) _ _ _
+    k.target_of-target.result k.target_of-target.ensures _ (ap (λ (f : Frame). presence_of f (T e)) (sym told.in-Dist.is)) _ _ _
     w.serve.ensures
 
-same-length-3 : tie.Need-same-length-3
-same-length-3 c = search rules
+shape_of-dist-in-Redist : tie.Need-shape_of-dist-in-Redist
+shape_of-dist-in-Redist c = search rules
 
-same-length-4 : tie.Need-same-length-4
-same-length-4 c = search rules
+shape_of-redist-in-Redist : tie.Need-shape_of-redist-in-Redist
+shape_of-redist-in-Redist c = search rules
 
-returns-4 : tie.Need-returns-4
-returns-4 c =
+returns-in-Redist : tie.Need-returns-in-Redist
+returns-in-Redist c =
     let w = c.before.before.before.before in
     let told = w.before.before.before in
-    let k = told.before.before in
+    let k = told.before in
     let e = first k in
     access_served e.args.shape (T e) (well (found (known k))) e.args.request (P (known k)) (placed (known k))
-    k.target-of.result k.target-of.ensures _ (ap (λ (f : Frame). presence_of f (T e)) (sym told.enum-told3.given.1)) _ _ _
-    w.serve2.ensures
+    k.target_of-target.result k.target_of-target.ensures _ (ap (λ (f : Frame). presence_of f (T e)) (sym told.in-Redist.is)) _ _ _
+    w.serve-in-Redist.ensures
 
-pub access-spec : {M : Type 1} → statement M
-access-spec =
+pub access_spec : {M : Type 1} → statement M
+access_spec =
     tie.close
     (tie.spec
-    well-formed-requires
-    returns
-    place-of-requires
-    enum-known-found
-    enum_told
+    well_formed-requires
+    returns-then-not-well_formed
+    place_of-found-requires
+    enum_known-found
+    enum_told-1
     refused-requires
-    returns-2
-    target-of-requires
-    enum-told-2
+    returns-in_default
+    target_of-target-requires
+    enum_told-in-Dist
     serve-requires
-    enum-told-3
-    serve-requires-2
-    same_length
-    same-length-2
-    returns-3
-    same-length-3
-    same-length-4
-    returns-4)
+    enum_told-in-Redist
+    serve-requires-in-Redist
+    shape_of-dist-in-Dist
+    shape_of-redist-in-Dist
+    returns-in-Dist
+    shape_of-dist-in-Redist
+    shape_of-redist-in-Redist
+    returns-in-Redist)

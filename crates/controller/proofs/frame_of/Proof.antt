@@ -6,13 +6,17 @@ use Rattle.meaning.specs.Interrupt.{frame_of}
 use Rattle.controller.proofs.frame_of.Statement.{statement}
 use Rattle.controller.proofs.frame_of.Tie as tie
 
-returns : tie.Need-returns
+returns-then-m : tie.Need-returns-then-m
 unfolding frame_of
-returns c = ap (λ (b : Bool). cond b Redist Dist) (sym c.if1.true)
+returns-then-m c = ap (λ (b : Bool). cond b Redist Dist) (sym c.if-m.true)
 
-returns-2 : tie.Need-returns-2
+returns-else-m : tie.Need-returns-else-m
 unfolding frame_of
-returns-2 c = ap (λ (b : Bool). cond b Redist Dist) (sym c.if1.false)
+returns-else-m c = ap (λ (b : Bool). cond b Redist Dist) (sym c.if-m.false)
 
-pub frame-of-spec : {M : Type 1} → statement M
-frame-of-spec = tie.close (tie.spec returns returns-2)
+pub frame_of_spec : {M : Type 1} → statement M
+frame_of_spec =
+    tie.close
+    (tie.spec
+    returns-then-m
+    returns-else-m)

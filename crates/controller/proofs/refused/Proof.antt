@@ -3,17 +3,23 @@ use borrow.Author.Rules.{rules}
 use Rattle.controller.proofs.refused.Statement.{statement}
 use Rattle.controller.proofs.refused.Tie as tie
 
-enum_told : tie.Need-enum-told
-enum_told c = search rules
+enum_told-1 : tie.Need-enum_told-1
+enum_told-1 c = search rules
 
-enum-known-found : tie.Need-enum-known-found
-enum-known-found c = search rules
+enum_known-found : tie.Need-enum_known-found
+enum_known-found c = search rules
 
-returns : tie.Need-returns
-returns c r h = let e = c.enum_told.given.1 in cc
+returns-in-At : tie.Need-returns-in-At
+returns-in-At c r h = let e = c.in-At.is in cc
 
-returns-2 : tie.Need-returns-2
-returns-2 c r h = let e = c.before.found.given.1 in cc
+returns-in-Refused : tie.Need-returns-in-Refused
+returns-in-Refused c r h = let e = c.in-Refused.is in cc
 
-pub refused-spec : {M : Type 1} → statement M
-refused-spec = tie.close (tie.spec enum_told enum-known-found returns returns-2)
+pub refused_spec : {M : Type 1} → statement M
+refused_spec =
+    tie.close
+    (tie.spec
+    enum_told-1
+    enum_known-found
+    returns-in-At
+    returns-in-Refused)

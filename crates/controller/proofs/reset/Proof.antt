@@ -1,4 +1,4 @@
--- `reset` is `stepped`. Two ways out: refusal 1 (returns), and all records 0 (returns-2).
+-- `reset` is `stepped`. Two ways out: refusal 1 (returns-then-not-well_formed), and all records 0 (returns).
 use mathlib.Core.Path.{◌≡◌, refl, sym, ◌∙◌}
 use mathlib.Core.Bool.{true}
 use borrow.Author.Tests.{not-true, not-false}
@@ -10,34 +10,34 @@ use Rattle.controller.proofs.reset.Statement.{statement}
 use Rattle.controller.proofs.reset.Tie as tie
 
 abbrev T : tie.Start → Tables
-T e = lent e.args.dist.now e.args.redist.now e.args.dist-presence.now e.args.redist-presence.now
+T e = lent e.args.dist.now e.args.redist.now e.args.dist_presence.now e.args.redist_presence.now
 
 -- once refusal 1 is judged
-abbrev entry : tie.After-well-formed → tie.Start
+abbrev entry : tie.After-well_formed-2 → tie.Start
 entry c = c.before.before.before.before.before
 
 -- once the Distributor is cleared
-abbrev tested : tie.After-clear → tie.After-well-formed
+abbrev tested : tie.After-clear → tie.After-well_formed-2
 tested c = c.before.before.before
 
 -- once the Redistributor is cleared too
-abbrev first-cleared : tie.After-clear2 → tie.After-clear
+abbrev first-cleared : tie.After-clear-2 → tie.After-clear
 first-cleared c = c.before.before.before.before
 
 well : (c : tie.After-clear) → well_formed (entry (tested c)).args.shape (T (entry (tested c))) ≡ true
 well c =
     let w = tested c in
-    sym (w.well-formed.ensures (T (entry w)) refl refl refl refl) ∙ not-false w.well-formed.result c.before.before.if1.false
+    sym (w.well_formed-2.ensures (T (entry w)) refl refl refl refl) ∙ c.if-not-well_formed.false
 
-well-formed-requires : tie.Need-well-formed-requires
-well-formed-requires c κs = search rules
+well_formed-requires : tie.Need-well_formed-requires
+well_formed-requires c κs = search rules
 
-returns : tie.Need-returns
-returns c =
+returns-then-not-well_formed : tie.Need-returns-then-not-well_formed
+returns-then-not-well_formed c =
     let w = c.before in
     let e = entry w in
     ill e.args.shape step.reset (T e)
-    (sym (w.well-formed-2.ensures (T e) refl refl refl refl) ∙ not-true w.well-formed-2.result c.if1.true)
+    (sym (w.well_formed-2.ensures (T e) refl refl refl refl) ∙ c.if-not-well_formed.true)
 
 clear-requires : tie.Need-clear-requires
 clear-requires c κs = search rules
@@ -45,27 +45,27 @@ clear-requires c κs = search rules
 clear-requires-2 : tie.Need-clear-requires-2
 clear-requires-2 c κs = search rules
 
-same_length : tie.Need-same-length
-same_length c = search rules
+shape_of-dist : tie.Need-shape_of-dist
+shape_of-dist c = search rules
 
-same-length-2 : tie.Need-same-length-2
-same-length-2 c = search rules
+shape_of-redist : tie.Need-shape_of-redist
+shape_of-redist c = search rules
 
-returns-2 : tie.Need-returns-2
-returns-2 c =
+returns : tie.Need-returns
+returns c =
     let both = c.before.before in
     let k = first-cleared both in
     let e = entry (tested k) in
-    all_cleared e.args.shape (T e) (well k) _ _ k.clear.ensures both.clear2.ensures
+    all_cleared e.args.shape (T e) (well k) _ _ k.clear.ensures both.clear-2.ensures
 
-pub reset-spec : {M : Type 1} → statement M
-reset-spec =
+pub reset_spec : {M : Type 1} → statement M
+reset_spec =
     tie.close
     (tie.spec
-    well-formed-requires
-    returns
+    well_formed-requires
+    returns-then-not-well_formed
     clear-requires
     clear-requires-2
-    same_length
-    same-length-2
-    returns-2)
+    shape_of-dist
+    shape_of-redist
+    returns)
