@@ -1,5 +1,5 @@
--- `berduzhika_deactivate` is `deactivate_returns`: what the gate says (returns), and behind it the controller's answer
--- as one number (returns-2).
+-- `berduzhika_deactivate` is `deactivate_returns`: what the gate says (returns-then-shut-ne0), and behind it the controller's answer
+-- as one number (returns).
 use mathlib.Core.Path.{ap}
 use Rattle.types.specs.declared.Side.{Side}
 use Rattle.types.specs.declared.Event.TheVariants.{Deactivate}
@@ -9,65 +9,65 @@ use borrow.Author.Rules.{rules}
 use Rattle.berduzhika.proofs.berduzhika_deactivate.Statement.{statement}
 use Rattle.berduzhika.proofs.berduzhika_deactivate.Tie as tie
 
-one-or-two-requires : tie.Need-one-or-two-requires
-one-or-two-requires c κs = search rules
+one_or_two-requires : tie.Need-one_or_two-requires
+one_or_two-requires c κs = search rules
 
-gate-requires : tie.Need-gate-requires
-gate-requires c κs = search rules
+gate-shut-requires : tie.Need-gate-shut-requires
+gate-shut-requires c κs = search rules
 
-returns : tie.Need-returns
-returns c = kept _ _ _ _ _ _ _ c.before.before.one-or-two.ensures c.before.gate.ensures c.if1.true
+returns-then-shut-ne0 : tie.Need-returns-then-shut-ne0
+returns-then-shut-ne0 c = kept _ _ _ _ _ _ _ c.one_or_two.ensures c.gate-shut.ensures c.if-shut-ne0.true
 
-shape-of-requires : tie.Need-shape-of-requires
-shape-of-requires c κs = search rules
+shape_of-shape-requires : tie.Need-shape_of-shape-requires
+shape_of-shape-requires c κs = search rules
 
-side-of-requires : tie.Need-side-of-requires
-side-of-requires c κs = search rules
+side_of-requires : tie.Need-side_of-requires
+side_of-requires c κs = search rules
 
 event-requires : tie.Need-event-requires
 event-requires c κs = search rules
 
-code-of-requires : tie.Need-code-of-requires
-code-of-requires c κs = search rules
+code_of-requires : tie.Need-code_of-requires
+code_of-requires c κs = search rules
 
-same_length : tie.Need-same-length
-same_length c = search rules
+shape_of-dist : tie.Need-shape_of-dist
+shape_of-dist c = search rules
 
-same-length-2 : tie.Need-same-length-2
-same-length-2 c = search rules
+shape_of-redist : tie.Need-shape_of-redist
+shape_of-redist c = search rules
 
 -- once the shape is known, the gate behind it
-abbrev gated : tie.After-shape-of → tie.After-gate
+abbrev gated : tie.After-shape_of-shape → tie.After-gate-shut
 gated c = c.before.before
 
 -- once the controller has answered
-abbrev asked : tie.After-event → tie.After-side-of
+abbrev asked : tie.After-event → tie.After-side_of
 asked c = c.before.before.before
 
-abbrev entry : tie.After-gate → tie.Start
+abbrev entry : tie.After-gate-shut → tie.Start
 entry c = c.before.before.before.before.before.before
 
-returns-2 : tie.Need-returns-2
-returns-2 c =
+returns : tie.Need-returns
+returns c =
     let a = c.before.before.before.before.before in
     let b = asked a in
     let s = b.before in
     let g = gated s in
-    passed _ _ _ _ _ _ _ g.before.one-or-two.ensures g.gate.ensures s.before.if1.left _ _ s.shape_of.ensures
-    (ap (λ (x : Side). step.happens (Deactivate x) (entry g).args.intid) b.side-of.ensures) _ _ _
-    c.code_of_lem.ensures a.event.ensures
+    passed _ _ _ _ _ _ _ g.one_or_two.ensures g.gate-shut.ensures s.if-shut-ne0.false _ _ s.shape_of-shape.ensures
+    (ap (λ (x : Side). step.happens (Deactivate x) (entry g).args.intid) b.side_of.ensures) _ _ _
+    c.code_of.ensures a.event.ensures
 
-pub berduzhika-deactivate-spec : {M : Type 1} → statement M
-berduzhika-deactivate-spec =
+pub berduzhika_deactivate_spec : {M : Type 1} → statement M
+berduzhika_deactivate_spec =
     tie.close
     (tie.spec
-    one-or-two-requires
-    gate-requires
-    returns
-    shape-of-requires
-    side-of-requires
+    one_or_two-requires
+    gate-shut-requires
+    returns-then-shut-ne0
+    shape_of-shape-requires
+    side_of-requires
     event-requires
-    code-of-requires
-    same_length
-    same-length-2
-    returns-2)
+    code_of-requires
+    shape_of-dist
+    shape_of-redist
+    returns)

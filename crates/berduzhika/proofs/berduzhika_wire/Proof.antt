@@ -1,60 +1,60 @@
--- `berduzhika_wire` is `wire_returns`: what the gate says (returns), and behind it the controller's answer as one number (returns-2).
+-- `berduzhika_wire` is `wire_returns`: what the gate says (returns-then-shut-ne0), and behind it the controller's answer as one number (returns).
 use mathlib.Core.Path.{refl}
 use Rattle.berduzhika.proofs.Gate.{kept, passed}
 use borrow.Author.Rules.{rules}
 use Rattle.berduzhika.proofs.berduzhika_wire.Statement.{statement}
 use Rattle.berduzhika.proofs.berduzhika_wire.Tie as tie
 
-zero-or-one-requires : tie.Need-zero-or-one-requires
-zero-or-one-requires c κs = search rules
+zero_or_one-requires : tie.Need-zero_or_one-requires
+zero_or_one-requires c κs = search rules
 
-gate-requires : tie.Need-gate-requires
-gate-requires c κs = search rules
+gate-shut-requires : tie.Need-gate-shut-requires
+gate-shut-requires c κs = search rules
 
-returns : tie.Need-returns
-returns c = kept _ _ _ _ _ _ _ c.before.before.zero-or-one.ensures c.before.gate.ensures c.if1.true
+returns-then-shut-ne0 : tie.Need-returns-then-shut-ne0
+returns-then-shut-ne0 c = kept _ _ _ _ _ _ _ c.zero_or_one.ensures c.gate-shut.ensures c.if-shut-ne0.true
 
-shape-of-requires : tie.Need-shape-of-requires
-shape-of-requires c κs = search rules
+shape_of-shape-requires : tie.Need-shape_of-shape-requires
+shape_of-shape-requires c κs = search rules
 
 event-requires : tie.Need-event-requires
 event-requires c κs = search rules
 
-code-of-requires : tie.Need-code-of-requires
-code-of-requires c κs = search rules
+code_of-requires : tie.Need-code_of-requires
+code_of-requires c κs = search rules
 
-same_length : tie.Need-same-length
-same_length c = search rules
+shape_of-dist : tie.Need-shape_of-dist
+shape_of-dist c = search rules
 
-same-length-2 : tie.Need-same-length-2
-same-length-2 c = search rules
+shape_of-redist : tie.Need-shape_of-redist
+shape_of-redist c = search rules
 
 -- once the shape is known, the gate behind it
-abbrev gated : tie.After-shape-of → tie.After-gate
+abbrev gated : tie.After-shape_of-shape → tie.After-gate-shut
 gated c = c.before.before
 
 -- once the controller has answered
-abbrev asked : tie.After-event → tie.After-shape-of
+abbrev asked : tie.After-event → tie.After-shape_of-shape
 asked c = c.before.before.before
 
-returns-2 : tie.Need-returns-2
-returns-2 c =
+returns : tie.Need-returns
+returns c =
     let a = c.before.before.before.before.before in
     let s = asked a in
     let g = gated s in
-    passed _ _ _ _ _ _ _ g.before.zero-or-one.ensures g.gate.ensures s.before.if1.left _ _ s.shape_of.ensures refl _ _ _
-    c.code_of_lem.ensures a.event.ensures
+    passed _ _ _ _ _ _ _ g.zero_or_one.ensures g.gate-shut.ensures s.if-shut-ne0.false _ _ s.shape_of-shape.ensures refl _ _ _
+    c.code_of.ensures a.event.ensures
 
-pub berduzhika-wire-spec : {M : Type 1} → statement M
-berduzhika-wire-spec =
+pub berduzhika_wire_spec : {M : Type 1} → statement M
+berduzhika_wire_spec =
     tie.close
     (tie.spec
-    zero-or-one-requires
-    gate-requires
-    returns
-    shape-of-requires
+    zero_or_one-requires
+    gate-shut-requires
+    returns-then-shut-ne0
+    shape_of-shape-requires
     event-requires
-    code-of-requires
-    same_length
-    same-length-2
-    returns-2)
+    code_of-requires
+    shape_of-dist
+    shape_of-redist
+    returns)
