@@ -57,6 +57,7 @@ pub fn next(k: Key) -> Key
     }
 }
 
+#[tactic(auto, unfolding(text::specs::Number::limited))]
 fn at_most(most: u32, n: Number) -> Number
     ensures { result ≡ at_most most n }
 {
@@ -95,6 +96,7 @@ fn one_of(line: &[u8], first: &[u8], second: &[u8]) -> Number
 }
 
 // What a line, without its end, says for the key whose turn it is.
+#[tactic(auto, unfolding(crate::specs::Keys::field_of))]
 pub fn field(line: &[u8], k: Key) -> Number
     ensures { result ≡ field_of k line.now }
 {
