@@ -13,22 +13,29 @@ small c = omega (arith, c.rank.ensures, rank_small c.before.args.p.key)
 rank-requires : tie.Need-rank-requires
 rank-requires c κs = search rules
 
-cast-result : tie.Need-overflow-cast-result
-cast-result c = search rules
+overflow_cast-result : tie.Need-overflow_cast-result
+overflow_cast-result c = search rules
 
-mul-result : tie.Need-overflow-mul-result
-mul-result c = search rules
+overflow_mul-result : tie.Need-overflow_mul-result
+overflow_mul-result c = search rules
 
-add-result : tie.Need-overflow-add-result
-add-result c = omega (arith, small c.before)
+overflow_add-result : tie.Need-overflow_add-result
+overflow_add-result c = omega (arith, small c.before)
 
-add-result-2 : tie.Need-overflow-add-result-2
-add-result-2 c = omega (arith, small c.before)
+overflow_add-result-2 : tie.Need-overflow_add-result-2
+overflow_add-result-2 c = omega (arith, small c.before)
 
 returns : tie.Need-returns
 unfolding line_number
 returns c = rw c.before.rank.ensures
 
-pub line-number-spec : {M : Type 1} → statement M
-line-number-spec =
-    tie.close (tie.spec rank-requires cast-result mul-result add-result add-result-2 returns)
+pub line_number_spec : {M : Type 1} → statement M
+line_number_spec =
+    tie.close
+    (tie.spec
+    rank-requires
+    overflow_cast-result
+    overflow_mul-result
+    overflow_add-result
+    overflow_add-result-2
+    returns)

@@ -8,5 +8,5 @@ returns : tie.Need-returns
 unfolding shape_of
 returns c = c.new.ensures
 
-pub shape-of-spec : {M : Type 1} → statement M
-shape-of-spec = tie.close (tie.spec (search rules) (search rules) (search rules) (search rules) (search rules) returns)
+pub shape_of_spec : {M : Type 1} → statement M
+shape_of_spec = tie.close (tie.spec (search rules) (search rules) (search rules) (search rules) (search rules) returns)

@@ -1,13 +1,13 @@
--- `way_of` is `way_of`. Two ways out: 0, a read (returns), and any other number, a write (returns-2).
+-- `way_of` is `way_of`. Two ways out: 0, a read (returns-then-n-eq0), and any other number, a write (returns-else-n-eq0).
 use borrow.Author.Tests.{eq-eqb, ne_eqb}
 use Rattle.replay_steps.proofs.request.way_of.Statement.{statement}
 use Rattle.replay_steps.proofs.request.way_of.Tie as tie
 
-returns : tie.Need-returns
-returns c = rw (eq-eqb _ _ c.if1.true)
+returns-then-n-eq0 : tie.Need-returns-then-n-eq0
+returns-then-n-eq0 c = rw (eq-eqb _ _ c.if-n-eq0.true)
 
-returns-2 : tie.Need-returns-2
-returns-2 c = rw (ne_eqb _ _ c.if1.false)
+returns-else-n-eq0 : tie.Need-returns-else-n-eq0
+returns-else-n-eq0 c = rw (ne_eqb _ _ c.if-n-eq0.false)
 
-pub way-of-spec : {M : Type 1} → statement M
-way-of-spec = tie.close (tie.spec returns returns-2)
+pub way_of_spec : {M : Type 1} → statement M
+way_of_spec = tie.close (tie.spec returns-then-n-eq0 returns-else-n-eq0)
