@@ -1,4 +1,4 @@
--- `prefix` is `take`. Two ways out: the whole line (returns), and its first bytes (returns-2).
+-- `prefix` is `take`. Two ways out: the whole line (returns-then-line-len), and its first bytes (returns-2).
 use mathlib.Core.Path.{sym}
 use native.Mathlib.Omega.{arith}
 use lib.ListN.{length-take}
@@ -7,11 +7,11 @@ use borrow.Author.Rules.{rules}
 use Rattle.replay_state.proofs.prefix.Statement.{statement}
 use Rattle.replay_state.proofs.prefix.Tie as tie
 
-returns : tie.Need-returns
-returns c = sym (take_all _ _ c.if1.true)
+returns-then-line-len : tie.Need-returns-then-line-len
+returns-then-line-len c = sym (take_all _ _ c.if-line-len.true)
 
-slice-aggregate-result : tie.Need-slice-aggregate-result
-slice-aggregate-result c = simp length-take (omega arith)
+slice_bounds-result-end : tie.Need-slice_bounds-result-end
+slice_bounds-result-end c = simp length-take (omega arith)
 
-pub prefix-spec : {M : Type 1} → statement M
-prefix-spec = tie.close (tie.spec returns slice-aggregate-result (search rules))
+pub prefix_spec : {M : Type 1} → statement M
+prefix_spec = tie.close (tie.spec returns-then-line-len slice_bounds-result-end (search rules))
