@@ -1,4 +1,4 @@
--- `prefix` is `take`. Two ways out: the whole line (returns-then-line-len), and its first bytes (returns-2).
+-- `prefix` is `take`. Two ways out: the whole line (returns-then-line-len), and its first bytes (returns).
 use mathlib.Core.Path.{sym}
 use native.Mathlib.Omega.{arith}
 use lib.ListN.{length-take}
