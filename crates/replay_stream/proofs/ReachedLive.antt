@@ -1,6 +1,6 @@
 -- From lines to bytes, and from bytes to a piece.
 --   after_line, after_other    what a byte promises: at a line's end, by what the line reached; and at any other byte
---   Feeding    what holds in the middle of a piece; feeding-more, feeding-done, feeding-full: a byte more, and the two ways to stop
+--   Feeding    what holds in the middle of a piece; feeding_more, feeding_done, feeding_full: a byte more, and the two ways to stop
 --   taken_goes    with room, some of a piece is taken
 use mathlib.Core.Path.{◌≡◌, refl, sym, ap, ◌∙◌}
 use mathlib.Core.List.{List, [], ◌∷◌}
