@@ -1,5 +1,5 @@
 -- What a replay does next does not depend on what it has written so far. So its output can be handed on at any time: what is written
--- from there on comes after it (closed-handed-on).
+-- from there on comes after it (closed_handed_on).
 use mathlib.Core.Path.{◌≡◌, refl, sym, ap, ◌∙◌}
 use mathlib.Core.Bool.{cond}
 use mathlib.Core.List.{List, [], ◌∷◌, ◌++◌, append_assoc, append-nil}
