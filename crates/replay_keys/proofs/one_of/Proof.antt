@@ -1,4 +1,5 @@
--- `one_of` is `one_of`. Three ways out: the first of the two lines (returns-then-same), the second (returns-then-same-2), and neither (returns).
+-- `one_of` is `one_of`. Three ways out: the first of the two lines (returns-then-same), the second (returns-then-same-2), and neither
+-- (returns).
 use mathlib.Core.Path.{◌≡◌, sym, ◌∙◌}
 use mathlib.Core.Bool.{false}
 use Rattle.text.specs.Text.{same_text}

@@ -1,4 +1,5 @@
--- `finish` writes what ends a replay. Two ways out: the buffer has less than 32 bytes (returns-then-out-lt32), and the last text is put (returns).
+-- `finish` writes what ends a replay. Two ways out: the buffer has less than 32 bytes (returns-then-out-lt32), and the last text is put
+-- (returns).
 use Rattle.replay_state.proofs.Ending.{ended_said, ended_full}
 use borrow.Author.Rules.{rules}
 use Rattle.replay_state.proofs.finish.Statement.{statement}

@@ -1,4 +1,5 @@
--- `frame_of` is `frame_of`. Two ways out: 0, the Distributor (returns-then-n-eq0), and any other number, the Redistributor (returns-else-n-eq0).
+-- `frame_of` is `frame_of`. Two ways out: 0, the Distributor (returns-then-n-eq0), and any other number, the Redistributor
+-- (returns-else-n-eq0).
 use borrow.Author.Tests.{eq-eqb, ne_eqb}
 use Rattle.replay_steps.proofs.request.frame_of.Statement.{statement}
 use Rattle.replay_steps.proofs.request.frame_of.Tie as tie
