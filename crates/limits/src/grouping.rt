@@ -2,6 +2,7 @@
 // is slot 268 and bit 12 of word 9, and what is asked then; all other records are 0. 192 is both bits, 64 group and 128 modifier alone.
 use crate::asked::{ALL, access, bench, event};
 use crate::print::{number, words};
+use std::io;
 use types::{Access, Event, Frame, Side};
 
 const IGROUPR9: u32 = 0x0A4;
@@ -18,102 +19,136 @@ fn read(side: Side, at: u32) -> Access {
     Access::read(Frame::Dist, side, 4, at)
 }
 
-fn say(record: u8, label: &[u8]) {
-    number(b"record=", record as u32);
-    words(label);
+fn say(rt: &impl Print, record: u8, label: &[u8]) -> io::Result<()> {
+    number(rt, b"record=", record as u32)?;
+    words(rt, label)
 }
 
 // What a side reads.
-fn shown(record: u8, label: &[u8], side: Side, at: u32) {
+fn shown(rt: &impl Print, record: u8, label: &[u8], side: Side, at: u32) -> io::Result<()> {
     let mut dist = [0u8; 2012];
     let mut redist = [0u8; 96];
     dist[268] = record;
-    say(record, label);
-    access(&mut dist, &mut redist, ALL, bench(), read(side, at));
+    say(rt, record, label)?;
+    access(rt, &mut dist, &mut redist, ALL, bench(), read(side, at))
 }
 
 // What the Non-secure side then reads.
-fn then(dist: &mut [u8], redist: &mut [u8], name: &[u8], at: u32) {
-    words(b"then Non-secure reads ");
-    words(name);
-    access(dist, redist, ALL, bench(), read(Side::NonSecure, at));
+fn then(
+    rt: &impl Print,
+    dist: &mut [u8],
+    redist: &mut [u8],
+    name: &[u8],
+    at: u32,
+) -> io::Result<()> {
+    words(rt, b"then Non-secure reads ")?;
+    words(rt, name)?;
+    access(rt, dist, redist, ALL, bench(), read(Side::NonSecure, at))
 }
 
 // A write, and what the Non-secure side then reads.
-fn written(record: u8, label: &[u8], request: Access, name: &[u8], at: u32) {
+fn written(
+    rt: &impl Print,
+    record: u8,
+    label: &[u8],
+    request: Access,
+    name: &[u8],
+    at: u32,
+) -> io::Result<()> {
     let mut dist = [0u8; 2012];
     let mut redist = [0u8; 96];
     dist[268] = record;
-    say(record, label);
-    access(&mut dist, &mut redist, ALL, bench(), request);
-    then(&mut dist, &mut redist, name, at);
+    say(rt, record, label)?;
+    access(rt, &mut dist, &mut redist, ALL, bench(), request)?;
+    then(rt, &mut dist, &mut redist, name, at)
 }
 
 // The Non-secure side activates or deactivates 300, and what it then reads.
-fn happened(record: u8, label: &[u8], what: Event) {
+fn happened(rt: &impl Print, record: u8, label: &[u8], what: Event) -> io::Result<()> {
     let mut dist = [0u8; 2012];
     let mut redist = [0u8; 96];
     dist[268] = record;
-    say(record, label);
-    event(&mut dist, &mut redist, ALL, bench(), 300, what);
-    then(&mut dist, &mut redist, b"ISACTIVER9", ISACTIVER9);
+    say(rt, record, label)?;
+    event(rt, &mut dist, &mut redist, ALL, bench(), 300, what)?;
+    then(rt, &mut dist, &mut redist, b"ISACTIVER9", ISACTIVER9)
 }
 
-fn activated(record: u8) {
+fn activated(rt: &impl Print, record: u8) -> io::Result<()> {
     let what = Event::Activate(Side::NonSecure);
-    happened(record, b" Non-secure activates 300", what);
+    happened(rt, record, b" Non-secure activates 300", what)
 }
 
-fn deactivated(record: u8) {
+fn deactivated(rt: &impl Print, record: u8) -> io::Result<()> {
     let what = Event::Deactivate(Side::NonSecure);
-    happened(record, b" Non-secure deactivates 300", what);
+    happened(rt, record, b" Non-secure deactivates 300", what)
 }
 
 // The stored bits read back to the Secure side, and to no other.
-fn stored() {
-    shown(192, b" Secure reads IGROUPR9", Side::Secure, IGROUPR9);
-    shown(192, b" Secure reads IGRPMODR9", Side::Secure, IGRPMODR9);
+fn stored(rt: &impl Print) -> io::Result<()> {
+    shown(rt, 192, b" Secure reads IGROUPR9", Side::Secure, IGROUPR9)?;
+    shown(rt, 192, b" Secure reads IGRPMODR9", Side::Secure, IGRPMODR9)?;
     shown(
+        rt,
         192,
         b" Non-secure reads IGROUPR9",
         Side::NonSecure,
         IGROUPR9,
-    );
+    )?;
     shown(
+        rt,
         192,
         b" Non-secure reads IGRPMODR9",
         Side::NonSecure,
         IGRPMODR9,
-    );
+    )
 }
 
 // By the Non-secure side; 4096 is 300's bit.
-fn set(record: u8, label: &[u8], name: &[u8], at: u32) {
+fn set(rt: &impl Print, record: u8, label: &[u8], name: &[u8], at: u32) -> io::Result<()> {
     let request = Access::write(Frame::Dist, Side::NonSecure, 4, at, 4096);
-    written(record, label, request, name, at);
+    written(rt, record, label, request, name, at)
 }
 
 // Writes of one of the two bits by the Secure side; 300 is enabled.
-fn regroup(record: u8, label: &[u8], at: u32, value: u32) {
+fn regroup(rt: &impl Print, record: u8, label: &[u8], at: u32, value: u32) -> io::Result<()> {
     let request = Access::write(Frame::Dist, Side::Secure, 4, at, value);
-    written(record, label, request, b"ISENABLER9", ISENABLER9);
+    written(rt, record, label, request, b"ISENABLER9", ISENABLER9)
 }
 
-pub fn run() {
-    stored();
+pub fn run(rt: &impl Print) -> io::Result<()> {
+    stored(rt)?;
     set(
+        rt,
         192,
         b" Non-secure writes ISENABLER9",
         b"ISENABLER9",
         ISENABLER9,
-    );
-    set(192, b" Non-secure writes ISPENDR9", b"ISPENDR9", ISPENDR9);
-    set(128, b" Non-secure writes ISPENDR9", b"ISPENDR9", ISPENDR9);
-    activated(195);
-    activated(131);
-    deactivated(209);
-    deactivated(145);
-    regroup(193, b" Secure writes IGRPMODR9 with 0", IGRPMODR9, 0);
-    regroup(65, b" Secure writes IGRPMODR9 with 4096", IGRPMODR9, 4096);
-    regroup(193, b" Secure writes IGROUPR9 with 0", IGROUPR9, 0);
+    )?;
+    set(
+        rt,
+        192,
+        b" Non-secure writes ISPENDR9",
+        b"ISPENDR9",
+        ISPENDR9,
+    )?;
+    set(
+        rt,
+        128,
+        b" Non-secure writes ISPENDR9",
+        b"ISPENDR9",
+        ISPENDR9,
+    )?;
+    activated(rt, 195)?;
+    activated(rt, 131)?;
+    deactivated(rt, 209)?;
+    deactivated(rt, 145)?;
+    regroup(rt, 193, b" Secure writes IGRPMODR9 with 0", IGRPMODR9, 0)?;
+    regroup(
+        rt,
+        65,
+        b" Secure writes IGRPMODR9 with 4096",
+        IGRPMODR9,
+        4096,
+    )?;
+    regroup(rt, 193, b" Secure writes IGROUPR9 with 0", IGROUPR9, 0)
 }

@@ -1,19 +1,19 @@
 // What is written of a request and of its answer.
 use answers::{status_of, value_of};
-use libc::STDOUT_FILENO;
+use std::io;
 use types::Answer;
 
-pub fn words(text: &[u8]) {
-    io::write_all(STDOUT_FILENO, text);
+pub fn words(rt: &impl Print, text: &[u8]) -> io::Result<()> {
+    rt.write_all(text)
 }
 
-pub fn number(label: &[u8], n: u32) {
-    words(label);
-    io::print_decimal(STDOUT_FILENO, n as u64);
+pub fn number(rt: &impl Print, label: &[u8], n: u32) -> io::Result<()> {
+    words(rt, label)?;
+    rt.print(n)
 }
 
-pub fn answer(answer: Answer) {
-    number(b" status=", status_of(answer));
-    number(b" value=", value_of(answer));
-    words(b"\n");
+pub fn answer(rt: &impl Print, answer: Answer) -> io::Result<()> {
+    number(rt, b" status=", status_of(answer))?;
+    number(rt, b" value=", value_of(answer))?;
+    words(rt, b"\n")
 }
