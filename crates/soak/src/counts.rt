@@ -3,6 +3,7 @@
 use crate::print::{field, line_end};
 use answers::status_of;
 use soak_steps::draws::Request;
+use std::io;
 use std::num::wrapping_add_u64;
 use types::Answer;
 
@@ -28,39 +29,41 @@ fn at(counts: &[u64], i: usize) -> u64 {
     if i < counts.len() { counts[i] } else { 0 }
 }
 
-fn print_class(counts: &[u64], class: u32) {
+fn print_class(rt: &impl Print, counts: &[u64], class: u32) -> io::Result<()> {
     let first = (10 + 4 * (class % 64)) as usize;
-    field(b"done class=", class as u64);
-    field(b" s=", at(counts, first));
-    field(b" ", at(counts, first + 1));
-    field(b" ns=", at(counts, first + 2));
-    field(b" ", at(counts, first + 3));
-    line_end();
+    field(rt, b"done class=", class as u64)?;
+    field(rt, b" s=", at(counts, first))?;
+    field(rt, b" ", at(counts, first + 1))?;
+    field(rt, b" ns=", at(counts, first + 2))?;
+    field(rt, b" ", at(counts, first + 3))?;
+    line_end(rt)
 }
 
-fn print_status(counts: &[u64], status: u32) {
-    field(b"status=", status as u64);
-    field(b" steps=", at(counts, status as usize));
-    line_end();
+fn print_status(rt: &impl Print, counts: &[u64], status: u32) -> io::Result<()> {
+    field(rt, b"status=", status as u64)?;
+    field(rt, b" steps=", at(counts, status as usize))?;
+    line_end(rt)
 }
 
-fn print_statuses(counts: &[u64]) {
+fn print_statuses(rt: &impl Print, counts: &[u64]) -> io::Result<()> {
     let mut status: u32 = 0;
     while status < 10 {
-        print_status(counts, status);
+        print_status(rt, counts, status)?;
         status += 1;
     }
+    Ok(())
 }
 
-fn print_classes(counts: &[u64]) {
+fn print_classes(rt: &impl Print, counts: &[u64]) -> io::Result<()> {
     let mut class: u32 = 0;
     while class < 37 {
-        print_class(counts, class);
+        print_class(rt, counts, class)?;
         class += 1;
     }
+    Ok(())
 }
 
-pub fn print_counts(counts: &[u64]) {
-    print_statuses(counts);
-    print_classes(counts);
+pub fn print_counts(rt: &impl Print, counts: &[u64]) -> io::Result<()> {
+    print_statuses(rt, counts)?;
+    print_classes(rt, counts)
 }

@@ -12,6 +12,7 @@ use show::{show, show_digest};
 use soak_steps::asked::ask;
 use soak_steps::draws::{drawn, four_of, off_of};
 use soak_steps::table::{Table, begun};
+use std::io;
 use std::num::wrapping_add_u64;
 use types::Shape;
 
@@ -22,15 +23,16 @@ mod print;
 mod run;
 mod show;
 
-fn print_shape(shape: Shape) {
-    field(b" lines=", shape.lines as u64);
-    field(b" espi=", shape.espi as u64);
-    field(b" eppi=", shape.eppi as u64);
-    field(b" mbis=", if shape.mbis { 1 } else { 0 });
+fn print_shape(rt: &impl Print, shape: Shape) -> io::Result<()> {
+    field(rt, b" lines=", shape.lines as u64)?;
+    field(rt, b" espi=", shape.espi as u64)?;
+    field(rt, b" eppi=", shape.eppi as u64)?;
+    field(rt, b" mbis=", if shape.mbis { 1 } else { 0 })
 }
 
 // One step of a table's run: drawn, taken and counted, digested where that is due, and shown where that is asked for.
 fn step(
+    rt: &impl Print,
     counts: &mut [u64],
     dist: &mut [u8],
     redist: &mut [u8],
@@ -39,7 +41,7 @@ fn step(
     plan: Plan,
     t: Table,
     before: Run,
-) -> Run {
+) -> io::Result<Run> {
     let n = four_of(before.x);
     let q = drawn(t, n);
     let off = off_of(n);
@@ -54,16 +56,17 @@ fn step(
     );
     count(counts, q, answer);
     let mut run = answered(before, n.e, answer);
-    show(plan.show, run.number, q, off, answer);
+    show(rt, plan.show, run.number, q, off, answer)?;
     if due(plan, run.number) {
         run = digested(run, digest(dist, redist, dist_presence, redist_presence));
     }
-    show_digest(plan.show, run.last);
-    run
+    show_digest(rt, plan.show, run.last)?;
+    Ok(run)
 }
 
 // The steps of a filled table, and what they came to.
 fn steps(
+    rt: &impl Print,
     counts: &mut [u64],
     dist: &mut [u8],
     redist: &mut [u8],
@@ -72,11 +75,12 @@ fn steps(
     plan: Plan,
     t: Table,
     x: u64,
-) -> Run {
+) -> io::Result<Run> {
     let mut run = run::begun(x, digest(dist, redist, dist_presence, redist_presence));
     let mut left = plan.steps;
     while left > 0 {
         run = step(
+            rt,
             counts,
             dist,
             redist,
@@ -85,15 +89,15 @@ fn steps(
             plan,
             t,
             run,
-        );
+        )?;
         left -= 1;
     }
-    run
+    Ok(run)
 }
 
 // A table: made and filled, its steps taken, and what they came to printed. The stream goes on from one filling to the next, and from
 // the last to the steps.
-fn one_table(counts: &mut [u64], plan: Plan, number: u64) {
+fn one_table(rt: &impl Print, counts: &mut [u64], plan: Plan, number: u64) -> io::Result<()> {
     let t = begun(number);
     let mut dist = [0u8; 2013];
     let mut redist = [0u8; 97];
@@ -104,6 +108,7 @@ fn one_table(counts: &mut [u64], plan: Plan, number: u64) {
     let c = fill_presence(&mut dist_presence, t.presence, b);
     let x = fill_presence(&mut redist_presence, t.presence, c);
     let run = steps(
+        rt,
         counts,
         &mut dist,
         &mut redist,
@@ -112,24 +117,25 @@ fn one_table(counts: &mut [u64], plan: Plan, number: u64) {
         plan,
         t,
         x,
-    );
-    field(b"table=", number);
-    print_shape(t.shape);
-    print_run(run);
+    )?;
+    field(rt, b"table=", number)?;
+    print_shape(rt, t.shape)?;
+    print_run(rt, run)
 }
 
-fn tables(counts: &mut [u64], plan: Plan) {
+fn tables(rt: &impl Print, counts: &mut [u64], plan: Plan) -> io::Result<()> {
     let mut number = plan.first;
     let mut left = plan.tables;
     while left > 0 {
-        one_table(counts, plan, number);
+        one_table(rt, counts, plan, number)?;
         number = wrapping_add_u64(number, 1);
         left -= 1;
     }
+    Ok(())
 }
 
-fn main() {
+fn main(rt: HostRuntime) -> io::Result<()> {
     let mut counts = [0u64; 160];
-    tables(&mut counts, plan::read());
-    print_counts(&counts);
+    tables(&rt, &mut counts, plan::read(&rt)?)?;
+    print_counts(&rt, &counts)
 }

@@ -1,4 +1,8 @@
 // What is asked for: five numbers of the input, whatever stands between them.
+ghost use Rattle.std.specs.Prelude.{◌≤◌, length, IfOk};
+
+use std::io;
+use std::io::Read;
 use std::num::wrapping_add_u64;
 
 #[derive(Clone, Copy)]
@@ -78,10 +82,25 @@ fn of(text: &[u8]) -> Plan {
     }
 }
 
-pub fn read() -> Plan {
-    let mut buffer = io::buffer();
-    let n = io::read_full(0, &mut buffer);
-    of(&buffer[..n])
+// Reads until the buffer is full or the input ends, and answers how many bytes came.
+fn read_full(input: &mut impl Read, buffer: &mut [u8]) -> io::Result<usize>
+    ensures { IfOk result (λ n. n ≤ length buffer.new) }
+{
+    let mut done: usize = 0;
+    while done < buffer.len() {
+        let n = input.read(&mut buffer[done..])?;
+        if n == 0 {
+            return Ok(done);
+        }
+        done += n;
+    }
+    Ok(done)
+}
+
+pub fn read(rt: &impl Input) -> io::Result<Plan> {
+    let mut buffer = [0u8; 4096];
+    let n = read_full(&mut rt.reader(), &mut buffer)?;
+    Ok(of(&buffer[..n]))
 }
 
 // Whether the tables are digested after this step: every so many, and after the last.

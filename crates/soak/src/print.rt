@@ -1,21 +1,21 @@
 // Words and numbers on standard output.
-use libc::STDOUT_FILENO;
+use std::io;
 
-pub fn field(label: &[u8], n: u64) {
-    io::write_all(STDOUT_FILENO, label);
-    io::print_decimal(STDOUT_FILENO, n);
+pub fn field(rt: &impl Print, label: &[u8], n: u64) -> io::Result<()> {
+    rt.write_all(label)?;
+    rt.print(n)
 }
 
 // A number after a space.
-pub fn spaced(n: u32) {
-    field(b" ", n as u64);
+pub fn spaced(rt: &impl Print, n: u32) -> io::Result<()> {
+    field(rt, b" ", n as u64)
 }
 
-pub fn hex(label: &[u8], n: u64) {
-    io::write_all(STDOUT_FILENO, label);
-    io::print_hex(STDOUT_FILENO, n, 16);
+pub fn hex(rt: &impl Print, label: &[u8], n: u64) -> io::Result<()> {
+    rt.write_all(label)?;
+    print!(rt; "{n:016x}")
 }
 
-pub fn line_end() {
-    io::write_all(STDOUT_FILENO, b"\n");
+pub fn line_end(rt: &impl Print) -> io::Result<()> {
+    rt.write_all(b"\n")
 }

@@ -2,6 +2,7 @@
 use crate::print::{field, hex, line_end};
 use answers::{status_of, value_of};
 use soak_steps::random::next;
+use std::io;
 use std::num::wrapping_add_u64;
 use types::Answer;
 
@@ -57,11 +58,11 @@ pub fn digested(before: Run, now: u64) -> Run {
     run
 }
 
-pub fn print_run(run: Run) {
-    field(b" done=", run.done);
-    field(b" refused=", run.refused);
-    field(b" changed=", run.changed);
-    hex(b" answers=", run.answers);
-    hex(b" tables=", run.tables);
-    line_end();
+pub fn print_run(rt: &impl Print, run: Run) -> io::Result<()> {
+    field(rt, b" done=", run.done)?;
+    field(rt, b" refused=", run.refused)?;
+    field(rt, b" changed=", run.changed)?;
+    hex(rt, b" answers=", run.answers)?;
+    hex(rt, b" tables=", run.tables)?;
+    line_end(rt)
 }

@@ -2,34 +2,43 @@
 use crate::print::{field, hex, line_end, spaced};
 use answers::{status_of, value_of};
 use soak_steps::draws::Request;
+use std::io;
 use types::Answer;
 
-fn request(q: Request) {
-    spaced(q.class);
-    spaced(q.side);
-    spaced(q.way);
-    spaced(q.frame);
-    spaced(q.width);
-    spaced(q.offset);
-    spaced(q.value);
-    spaced(q.intid);
+fn request(rt: &impl Print, q: Request) -> io::Result<()> {
+    spaced(rt, q.class)?;
+    spaced(rt, q.side)?;
+    spaced(rt, q.way)?;
+    spaced(rt, q.frame)?;
+    spaced(rt, q.width)?;
+    spaced(rt, q.offset)?;
+    spaced(rt, q.value)?;
+    spaced(rt, q.intid)
 }
 
 // Where it is asked for (`on`).
-pub fn show(on: bool, number: u64, q: Request, off: u32, answer: Answer) {
+pub fn show(
+    rt: &impl Print,
+    on: bool,
+    number: u64,
+    q: Request,
+    off: u32,
+    answer: Answer,
+) -> io::Result<()> {
     if !on {
-        return;
+        return Ok(());
     }
-    field(b"step ", number);
-    request(q);
-    spaced(off);
-    spaced(status_of(answer));
-    spaced(value_of(answer));
+    field(rt, b"step ", number)?;
+    request(rt, q)?;
+    spaced(rt, off)?;
+    spaced(rt, status_of(answer))?;
+    spaced(rt, value_of(answer))
 }
 
-pub fn show_digest(on: bool, tables: u64) {
+pub fn show_digest(rt: &impl Print, on: bool, tables: u64) -> io::Result<()> {
     if on {
-        hex(b" ", tables);
-        line_end();
+        hex(rt, b" ", tables)?;
+        line_end(rt)?;
     }
+    Ok(())
 }
