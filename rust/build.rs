@@ -1,11 +1,11 @@
-//! Says where libberduzhika.a is: in the folder that BERDUZHIKA_LIB names, or where `rt staticlib berduzhika` writes it.
+//! Says where libberduzhika.a is: in the folder that BERDUZHIKA_LIB names, or where `rt lib` writes it in `crates/berduzhika`.
 use std::env;
 use std::path::{Path, PathBuf};
 
 fn folder() -> PathBuf {
     match env::var_os("BERDUZHIKA_LIB") {
         Some(folder) => PathBuf::from(folder),
-        None => Path::new(env!("CARGO_MANIFEST_DIR")).join("../target/staticlib"),
+        None => Path::new(env!("CARGO_MANIFEST_DIR")).join("../crates/berduzhika/out"),
     }
 }
 
@@ -16,7 +16,7 @@ fn main() {
     println!("cargo:rerun-if-changed={}", archive.display());
     assert!(
         archive.is_file(),
-        "no libberduzhika.a in {}: run `rt staticlib berduzhika`, or set BERDUZHIKA_LIB to the folder that has it",
+        "no libberduzhika.a in {}: run `rt lib` in crates/berduzhika, or set BERDUZHIKA_LIB to the folder that has it",
         folder.display()
     );
     if env::var("CARGO_CFG_TARGET_ARCH").as_deref() != Ok("x86_64") {
