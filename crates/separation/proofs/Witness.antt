@@ -117,7 +117,8 @@ fits i m = by (home_of i) refl
         absurd (clash m (subst (λ (j : Interrupt). implemented bench before j ≡ false) here refl))
     at_slot k w e (no z) (yes y) = subst (λ (j : ℕ). Fits (slot Dist j w)) (sym y) (refl, λ n. absurd (clash n refl))
     at_slot k w e (no z) (no y) =
-        let kept = sym (get_or-set_other (set before.dist 13 4) 368 k 255 0 z ∙ get_or-set_other before.dist 13 k 4 0 y) in
+        let wired = get_or other.dist 13 0 in
+        let kept = sym (get_or-set_other (set before.dist 13 wired) 368 k 255 0 z ∙ get_or-set_other before.dist 13 k wired 0 y) in
         (ap (has Group) kept, λ n. kept)
 
     by : (h : Home) → home_of i ≡ h → Fits h
