@@ -82,7 +82,8 @@ module _ (lines espi eppi mbis : ℕ) where
 
   -- what holds of the gated step holds of the call
   by_gate : (P : Returned → Returned → Type 0) (c : Call) (a b : Tables)
-      → P (after_gate (names_all c) (zero_or_one mbis) shape (step_of c) a) (after_gate (names_all c) (zero_or_one mbis) shape (step_of c) b)
+      → P (after_gate (names_all c) (zero_or_one mbis) shape (step_of c) a)
+      (after_gate (names_all c) (zero_or_one mbis) shape (step_of c) b)
       → P (returns lines espi eppi mbis c a) (returns lines espi eppi mbis c b)
   by_gate P c a b h =
       subst (λ (x : Returned). P x (returns lines espi eppi mbis c b)) (sym (gated c a))

@@ -30,7 +30,8 @@ use Rattle.types.specs.declared.Answer.TheVariants.{Done, Refused}
 use Rattle.meaning.specs.Interrupt.{Interrupt, shared, same, interrupt, frame_of, named, sgi, between}
 use Rattle.meaning.specs.Layout.{Tables, lent, records_of, presence_of, well_formed, interrupt_at, cell_of}
 use Rattle.meaning.specs.Registers.{place_of, written_value, target_of}
-use Rattle.meaning.specs.Rule.{Step, access, happens, reset, Deed, idle, happen, clear, write_to, accessed, deed_of, event_answer, act, aims}
+use Rattle.meaning.specs.Rule.{Step, access, happens, reset, Deed, idle, happen, clear, write_to, accessed, deed_of, event_answer, act}
+use Rattle.meaning.specs.Rule.{aims}
 use Rattle.meaning.specs.Step.{read, access_answer, answer, tables_where, stepped}
 use Rattle.meaning.proofs.Choices.{cond_true, cond_false}
 use Rattle.meaning.proofs.After.{well_shape, well_lengths}

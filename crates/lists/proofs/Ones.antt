@@ -75,7 +75,8 @@ without v x = bit_and v (all_but x)
 
 all_but_lem : (x j : ℕ) → x < 32 → j < 32 → bit_at (all_but x) j ≡ not (eqb j x)
 unfolding bit_at
-all_but_lem x j h k = beq_true (bit_at (all_but x) j) (not (eqb j x)) (every_at (row x) 32 (every_at (λ i. every (row i) 0 32) 32 refl x h) j k)
+all_but_lem x j h k =
+    beq_true (bit_at (all_but x) j) (not (eqb j x)) (every_at (row x) 32 (every_at (λ i. every (row i) 0 32) 32 refl x h) j k)
   where
     row : ℕ → ℕ → Bool
     row x j = beq (bit_at (all_but x) j) (not (eqb j x))

@@ -167,7 +167,8 @@ take300 = Activate NonSecure
 -- THE CASES
 
 pub all_hold : (r : Records) (v : ℕ) (side : Side) → Hold (cases r v side)
-unfolding act answer deed_of place_of listed in_column in_messages row_of written_value target_of names same named frame_of sgi in_range present
+unfolding act answer deed_of place_of listed in_column in_messages row_of written_value target_of names same named frame_of sgi in_range
+    present
     naming decode get put non_secure edge_of pending digit_at row sees may_touch reaches switched update shows visible addresses
     may_send sent event_answer happened aims admits effect performed word_read read typer
 all_hold r v side = (

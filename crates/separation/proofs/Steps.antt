@@ -23,7 +23,8 @@ use Rattle.types.specs.declared.Target.TheVariants as target
 use Rattle.meaning.specs.Interrupt.{Interrupt, same, named}
 use Rattle.meaning.specs.Cell.{Cell, owned}
 use Rattle.meaning.specs.Registers.{row_of, kind_of, written_value, target_of}
-use Rattle.meaning.specs.Rule.{Step, access, happens, reset, Deed, idle, write, send, happen, clear, write_to, deed_of, aims, performed, act}
+use Rattle.meaning.specs.Rule.{Step, access, happens, reset, Deed, idle, write, send, happen, clear, write_to, deed_of, aims, performed}
+use Rattle.meaning.specs.Rule.{act}
 use Rattle.meaning.specs.Step.{Cells}
 use Rattle.meaning.proofs.Choices.{no_true}
 use Rattle.meaning.proofs.Sides.{side_of, is_clear, on_guard, tells_side, rewrites, regroups}

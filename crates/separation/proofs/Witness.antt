@@ -192,8 +192,8 @@ abbrev q_1 : List Step
 q_1 = rises 44 ∷ (allow ∷ (look ∷ []))
 
 first_honest : Run bench before first_run
-unfolding aims deed_of place_of listed in_column row_of target_of names same named frame_of owned non_secure cell_of implemented home_of in_range
-    decode before bit_at
+unfolding aims deed_of place_of listed in_column row_of target_of names same named frame_of owned non_secure cell_of implemented home_of
+    in_range decode before bit_at
 first_honest = (
   rise_private [] before before_well 44 tt refl,
   (allows, (looks _, (rise_private q_1 before before_well 46 (refl, (refl, (refl, tt))) refl, (marks _, (looks _, tt))))),
@@ -206,8 +206,8 @@ abbrev q_3 : List Step
 q_3 = allow ∷ (look ∷ (rises 47 ∷ (mark ∷ [])))
 
 second_honest : Run bench other second_run
-unfolding aims deed_of place_of listed in_column row_of target_of names same named frame_of owned non_secure cell_of implemented home_of in_range
-    decode before other bit_at
+unfolding aims deed_of place_of listed in_column row_of target_of names same named frame_of owned non_secure cell_of implemented home_of
+    in_range decode before other bit_at
 second_honest = (
   allows,
   (
@@ -231,8 +231,8 @@ abbrev second_plain : List (Item Step)
 second_plain = public look ∷ (private (rises 47) ∷ [])
 
 pub plain_witness : SameInBytes bench before first_plain other second_plain
-unfolding aims deed_of place_of listed in_column row_of target_of names same named frame_of owned non_secure cell_of implemented home_of in_range
-    decode before other bit_at
+unfolding aims deed_of place_of listed in_column row_of target_of names same named frame_of owned non_secure cell_of implemented home_of
+    in_range decode before other bit_at
 plain_witness =
     demand_3 bench before other before_well other_well alike first_plain second_plain tt tt refl (
       rise_private [] before before_well 44 tt refl,
@@ -284,13 +284,15 @@ cells_2 x i =
     ∙ ap (act bench look i) (cells_stepped bench allow before before_well i)) x
 
 word_1 : word_read bench NonSecure word_9 allowed ≡ 0x2000
-unfolding word_read row visible reaches may_touch sees shows pending edge_of sgi non_secure cell_of implemented home_of in_range decode before
-    bit_at act performed deed_of place_of written_value listed in_column row_of target_of aims names admits effect update switched get put digit_at
+unfolding word_read row visible reaches may_touch sees shows pending edge_of sgi non_secure cell_of implemented home_of in_range decode
+    before bit_at act performed deed_of place_of written_value listed in_column row_of target_of aims names admits effect update switched
+    get put digit_at
 word_1 = refl
 
 word_2 : word_read bench NonSecure word_9 looked ≡ 0x2000
-unfolding word_read row visible reaches may_touch sees shows pending edge_of sgi non_secure cell_of implemented home_of in_range decode before
-    bit_at act performed deed_of place_of written_value listed in_column row_of target_of aims names admits effect update switched get put digit_at
+unfolding word_read row visible reaches may_touch sees shows pending edge_of sgi non_secure cell_of implemented home_of in_range decode
+    before bit_at act performed deed_of place_of written_value listed in_column row_of target_of aims names admits effect update switched
+    get put digit_at
 word_2 = refl
 
 first_look : read_at bench Dist 0x224 0 t_1 ≡ Done 0x2000
@@ -304,8 +306,8 @@ unfolding answer place_of listed in_column row_of
 marked = answer_well bench mark t_2 well_2
 
 set_word : old_or_owned word_9 0x2000 0x1000 looked ≡ 0x3000
-unfolding old_or_owned row owned reaches may_touch non_secure cell_of implemented home_of in_range decode before bit_at act performed deed_of place_of
-    written_value listed in_column row_of target_of aims names admits effect update switched get put digit_at
+unfolding old_or_owned row owned reaches may_touch non_secure cell_of implemented home_of in_range decode before bit_at act performed
+    deed_of place_of written_value listed in_column row_of target_of aims names admits effect update switched get put digit_at
 set_word = refl
 
 third_look : read_at bench Dist 0x224 0 (written_at bench Dist 0x224 0x1000 t_2) ≡ Done 0x3000

@@ -8,7 +8,8 @@ use Rattle.types.specs.declared.Shape.{Shape}
 use Rattle.types.specs.declared.Answer.{Answer}
 use Rattle.meaning.specs.Interrupt.{Interrupt, interrupt}
 use Rattle.meaning.specs.Cell.{Cell, non_secure, owned}
-use Rattle.meaning.specs.Layout.{Tables, records_of, presence_of, slots, interrupt_at, home_of, record_at, well_formed, implemented, cell_of}
+use Rattle.meaning.specs.Layout.{Tables, records_of, presence_of, slots, interrupt_at, home_of, record_at, well_formed, implemented}
+use Rattle.meaning.specs.Layout.{cell_of}
 use Rattle.meaning.specs.Rule.{Step, act}
 use Rattle.meaning.specs.Step.{stepped}
 use Rattle.separation.specs.Runs.{Machine, Item, Honest, Alike, SameRuns}
@@ -65,7 +66,8 @@ secure_at s t i = implemented s t i && not (non_secure (cell_of s t i))
 -- the presence words without them
 unfoldable pub cleared : Shape → Tables → Frame → List ℕ
 cleared s t r =
-    map_from 0 (λ w word. row 1 32 (λ x. digit (bit_at word x && not (secure_at s t (interrupt r (present_intid r w x)))))) (presence_of r t)
+    map_from 0 (λ w word. row 1 32 (λ x. digit (bit_at word x && not (secure_at s t (interrupt r (present_intid r w x))))))
+    (presence_of r t)
 
 unfoldable pub without_secure : Shape → Tables → Tables
 without_secure s t = record { dist = t.dist; redist = t.redist; dist_presence = cleared s t Dist; redist_presence = cleared s t Redist }

@@ -1,5 +1,6 @@
 -- Numbers in text: decimal, at most 4294967295, no leading zeros.
-use Rattle.std.specs.Prelude.{Bool, cond, ◌&&◌, ◌||◌, List, [], ◌∷◌, ◌++◌, ℕ, zero, suc, ◌+◌, ◌*◌, ◌-◌, ◌/◌, ◌%◌, eqb, ltb, leb, length, get_or}
+use Rattle.std.specs.Prelude.{Bool, cond, ◌&&◌, ◌||◌, List, [], ◌∷◌, ◌++◌, ℕ, zero, suc, ◌+◌, ◌*◌, ◌-◌, ◌/◌, ◌%◌, eqb, ltb, leb, length}
+use Rattle.std.specs.Prelude.{get_or}
 use Rattle.text.specs.declared.Number.{Number}
 use Rattle.text.specs.declared.Number.TheVariants.{Is, Bad}
 

@@ -1,7 +1,5 @@
--- `gate` is `shut`. Three ways out: a number that names nothing (returns-then-not-named), an mbis that is neither 0 nor 1 (returns-then-not-zero_or_one), and the gate open
--- (returns).
-use borrow.Author.Rules.{rules}
-use borrow.Author.Tests.{not-true, not-false}
+-- `gate` is `shut`. Three ways out: a number that names nothing (returns-then-not-named), an mbis that is neither 0 nor 1
+-- (returns-then-not-zero_or_one), and the gate open (returns).
 use Rattle.abi_numbers.specs.Code.{shut, code_of}
 use Rattle.abi_numbers.proofs.gate.Goals as goal
 

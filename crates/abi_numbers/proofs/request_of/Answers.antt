@@ -1,7 +1,6 @@
 -- `request_of` is `request_of`.
 use mathlib.Core.Path.{◌∙◌}
 use Rattle.abi_numbers.specs.Numbers.{request_of}
-use borrow.Author.Rules.{rules}
 use Rattle.abi_numbers.proofs.request_of.Goals as goal
 
 pub returns : goal.returns

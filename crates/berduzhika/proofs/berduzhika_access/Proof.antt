@@ -1,4 +1,5 @@
--- `berduzhika_access` is `access_returns`: what the gate says (returns-then-shut-ne0), and behind it the controller's answer as one number (returns).
+-- `berduzhika_access` is `access_returns`: what the gate says (returns-then-shut-ne0), and behind it the controller's answer as one number
+-- (returns).
 use mathlib.Core.Path.{ap}
 use Rattle.meaning.specs.Rule as step
 use Rattle.berduzhika.proofs.Gate.{kept, passed}

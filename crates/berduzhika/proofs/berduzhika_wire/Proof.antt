@@ -1,4 +1,5 @@
--- `berduzhika_wire` is `wire_returns`: what the gate says (returns-then-shut-ne0), and behind it the controller's answer as one number (returns).
+-- `berduzhika_wire` is `wire_returns`: what the gate says (returns-then-shut-ne0), and behind it the controller's answer as one number
+-- (returns).
 use mathlib.Core.Path.{refl}
 use Rattle.berduzhika.proofs.Gate.{kept, passed}
 use borrow.Author.Rules.{rules}

@@ -1,8 +1,7 @@
--- `access` is `stepped`. Four ways out: refusal 1 (returns-then-not-well_formed), refusals 2 to 6 (returns-in_default), the Distributor frame (returns-in-Dist), the
--- Redistributor frame (returns-in-Redist).
+-- `access` is `stepped`. Four ways out: refusal 1 (returns-then-not-well_formed), refusals 2 to 6 (returns-in_default), the Distributor
+-- frame (returns-in-Dist), the Redistributor frame (returns-in-Redist).
 use mathlib.Core.Path.{◌≡◌, refl, sym, ap, ◌∙◌}
 use mathlib.Core.Bool.{true}
-use borrow.Author.Tests.{not-true, not-false}
 use Rattle.types.specs.declared.Frame.{Frame}
 use Rattle.types.specs.declared.Frame.TheVariants.{Dist, Redist}
 use Rattle.types.specs.declared.Place.{Place}

@@ -1,8 +1,7 @@
--- `event` is `stepped`. Three ways out: refusal 1 (returns-then-not-well_formed), an interrupt of the Distributor's bank (returns-in-Dist), of the Redistributor's
--- (returns-in-Redist).
+-- `event` is `stepped`. Three ways out: refusal 1 (returns-then-not-well_formed), an interrupt of the Distributor's bank (returns-in-Dist),
+-- of the Redistributor's (returns-in-Redist).
 use mathlib.Core.Path.{◌≡◌, refl, sym, ◌∙◌}
 use mathlib.Core.Bool.{true}
-use borrow.Author.Tests.{not-true, not-false}
 use Rattle.types.specs.declared.Frame.{Frame}
 use Rattle.types.specs.declared.Frame.TheVariants.{Dist, Redist}
 use Rattle.meaning.specs.Interrupt.{frame_of}

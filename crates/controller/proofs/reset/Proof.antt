@@ -1,7 +1,6 @@
 -- `reset` is `stepped`. Two ways out: refusal 1 (returns-then-not-well_formed), and all records 0 (returns).
 use mathlib.Core.Path.{◌≡◌, refl, sym, ◌∙◌}
 use mathlib.Core.Bool.{true}
-use borrow.Author.Tests.{not-true, not-false}
 use Rattle.meaning.specs.Layout.{Tables, lent, well_formed}
 use Rattle.meaning.specs.Rule as step
 use Rattle.controller.proofs.Outcomes.{ill, all_cleared}

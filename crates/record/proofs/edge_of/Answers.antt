@@ -1,6 +1,5 @@
 -- `record::edge_of` is `edge_of`. One way out, after the one call.
 use Rattle.meaning.specs.Cell.{get, edge_of}
-use borrow.Author.Rules.{rules}
 use Rattle.record.proofs.edge_of.Goals as goal
 
 pub returns : goal.returns

@@ -1,6 +1,5 @@
 -- `record::is_pending` is `pending`. Two ways out: an edge interrupt (returns-then-edge_of), and a level one (returns-else-edge_of).
 use Rattle.meaning.specs.Cell.{get, pending}
-use borrow.Author.Rules.{rules}
 use Rattle.record.proofs.is_pending.Goals as goal
 
 pub returns-then-edge_of : goal.returns-then-edge_of
@@ -12,4 +11,10 @@ unfolding pending get
 returns-else-edge_of c s i p h =
     let latch = c in
     let e = latch in
-    rw (latch.has-else-edge_of.ensures p, c.has-else-edge_of-2.ensures p, c.has-else-edge_of-3.ensures p, ← (e.edge_of.ensures i p h), e.if-edge_of.false)
+    rw (
+      latch.has-else-edge_of.ensures p,
+      c.has-else-edge_of-2.ensures p,
+      c.has-else-edge_of-3.ensures p,
+      ← (e.edge_of.ensures i p h),
+      e.if-edge_of.false,
+    )

@@ -1,6 +1,5 @@
 -- `record::may_touch` is `may_touch`. Two ways out: the Secure side (returns-in-Secure), and the Non-secure side (returns-in-NonSecure).
 use Rattle.meaning.specs.Rule.{may_touch}
-use borrow.Author.Rules.{rules}
 use Rattle.record.proofs.may_touch.Goals as goal
 
 pub returns-in-Secure : goal.returns-in-Secure

@@ -1,6 +1,5 @@
 -- `record::non_secure` is `non_secure`: the group bit. One way out, after the one call.
 use Rattle.meaning.specs.Cell.{get, non_secure}
-use borrow.Author.Rules.{rules}
 use Rattle.record.proofs.non_secure.Goals as goal
 
 pub returns : goal.returns

@@ -1,10 +1,10 @@
--- `record::shown` is `shows`. Three ways out: a switched state (returns-in-Switched), a guarded bit (returns-in-Guarded), the trigger (returns-in-Trigger).
+-- `record::shown` is `shows`. Three ways out: a switched state (returns-in-Switched), a guarded bit (returns-in-Guarded), the trigger
+-- (returns-in-Trigger).
 use mathlib.Core.Path.{◌∙◌, ap}
 use native.Mathlib.Omega.{arith}
 use Rattle.lists.specs.Word.{digit}
 use Rattle.meaning.specs.Rule.{shows}
 use Rattle.meaning.proofs.Bytes.{digit_small}
-use borrow.Author.Rules.{rules}
 use Rattle.record.proofs.shown.Goals as goal
 
 pub overflow_mul-result : goal.overflow_mul-result

@@ -1,6 +1,5 @@
 -- `record::side_sees` is `sees`. Two ways out: the Secure side (returns-in-Secure), and the Non-secure side (returns-in-NonSecure).
 use Rattle.meaning.specs.Rule.{sees}
-use borrow.Author.Rules.{rules}
 use Rattle.record.proofs.side_sees.Goals as goal
 
 pub returns-in-Secure : goal.returns-in-Secure

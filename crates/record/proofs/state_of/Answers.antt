@@ -1,6 +1,5 @@
 -- `record::state_of` is `state_of`. Three ways out: enabled (returns-in-Enable), pending (returns-in-Pending), active (returns-in-Active).
 use Rattle.meaning.specs.Cell.{get}
-use borrow.Author.Rules.{rules}
 use Rattle.record.proofs.state_of.Goals as goal
 
 pub returns-in-Enable : goal.returns-in-Enable

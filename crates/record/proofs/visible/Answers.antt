@@ -1,8 +1,8 @@
--- `record::visible` is `visible`. Two ways out: the gate open (returns-then-implemented-may_touch), and shut (returns-else-implemented-may_touch).
+-- `record::visible` is `visible`. Two ways out: the gate open (returns-then-implemented-may_touch), and shut
+-- (returns-else-implemented-may_touch).
 use Rattle.types.specs.declared.Way.TheVariants.{Read}
 use Rattle.meaning.specs.Cell.{decode}
 use Rattle.meaning.specs.Rule.{visible, reaches}
-use borrow.Author.Rules.{rules}
 use Rattle.record.proofs.visible.Goals as goal
 
 pub returns-then-implemented-may_touch : goal.returns-then-implemented-may_touch

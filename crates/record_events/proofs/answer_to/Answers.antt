@@ -1,7 +1,7 @@
--- `events::answer_to` is `event_answer`. Two ways out: an interrupt that the event may name (returns-then-implemented-sees_by), and another (returns-else-implemented-sees_by).
+-- `events::answer_to` is `event_answer`. Two ways out: an interrupt that the event may name (returns-then-implemented-sees_by), and another
+-- (returns-else-implemented-sees_by).
 use Rattle.meaning.specs.Cell.{decode}
 use Rattle.meaning.specs.Rule.{event_answer}
-use borrow.Author.Rules.{rules}
 use Rattle.record_events.proofs.answer_to.Goals as goal
 
 pub returns-then-implemented-sees_by : goal.returns-then-implemented-sees_by

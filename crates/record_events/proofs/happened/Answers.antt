@@ -1,7 +1,7 @@
--- `events::happened` is `happened`. Three ways out: a wire (returns-in-Wire), an activation (returns-in-Activate), a deactivation (returns-in-Deactivate).
+-- `events::happened` is `happened`. Three ways out: a wire (returns-in-Wire), an activation (returns-in-Activate), a deactivation
+-- (returns-in-Deactivate).
 use Rattle.meaning.specs.Rule.{happened}
 use Rattle.record_bits.proofs.Puts.{decode-put}
-use borrow.Author.Rules.{rules}
 use Rattle.record_events.proofs.happened.Goals as goal
 
 pub returns-in-Wire : goal.returns-in-Wire

@@ -1,9 +1,9 @@
--- `events::ready` is `ready`. Three ways out: a wire (returns-in-Wire), an activation (returns-in-Activate), a deactivation (returns-in-Deactivate).
+-- `events::ready` is `ready`. Three ways out: a wire (returns-in-Wire), an activation (returns-in-Activate), a deactivation
+-- (returns-in-Deactivate).
 use mathlib.Core.Path.{◌≡◌, refl, ◌∙◌}
 use mathlib.Core.Bool.{Bool, true, false, cond, not}
 use Rattle.types.specs.declared.Answer.{Answer}
 use Rattle.meaning.specs.Cell.{get}
-use borrow.Author.Rules.{rules}
 use Rattle.record_events.proofs.ready.Goals as goal
 
 swap : (b : Bool) (x y : Answer) → cond (not b) x y ≡ cond b y x

@@ -1,5 +1,5 @@
--- `events::sees_by` is `sees_by`. Three ways out: a wire (returns-in-Wire), an activation (returns-in-Activate), a deactivation (returns-in-Deactivate).
-use borrow.Author.Rules.{rules}
+-- `events::sees_by` is `sees_by`. Three ways out: a wire (returns-in-Wire), an activation (returns-in-Activate), a deactivation
+-- (returns-in-Deactivate).
 use Rattle.record_events.proofs.sees_by.Goals as goal
 
 pub returns-in-Wire : goal.returns-in-Wire

@@ -2,7 +2,6 @@
 use Rattle.meaning.specs.Cell.{get}
 use Rattle.meaning.specs.Rule.{happened}
 use Rattle.record_bits.proofs.Puts.{decode-put}
-use borrow.Author.Rules.{rules}
 use Rattle.record_events.proofs.wired.Goals as goal
 
 pub returns : goal.returns

@@ -1,8 +1,8 @@
--- `deliver` is `delivered`. Two ways out: the gate open (returns-then-implemented-may_send), and shut, where the record is unchanged (returns-else-implemented-may_send).
+-- `deliver` is `delivered`. Two ways out: the gate open (returns-then-implemented-may_send), and shut, where the record is unchanged
+-- (returns-else-implemented-may_send).
 use Rattle.meaning.specs.Cell.{decode}
 use Rattle.meaning.proofs.Bytes.{encode-decode}
 use Rattle.record_messages.specs.Delivered.{delivered}
-use borrow.Author.Rules.{rules}
 use Rattle.record_messages.proofs.deliver.Goals as goal
 
 pub returns-then-implemented-may_send : goal.returns-then-implemented-may_send

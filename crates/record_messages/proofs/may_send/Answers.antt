@@ -1,6 +1,5 @@
 -- `messages::may_send` is `may_send`. Two ways out: the Secure side (returns-in-Secure), and the Non-secure side (returns-in-NonSecure).
 use Rattle.meaning.specs.Rule.{may_send}
-use borrow.Author.Rules.{rules}
 use Rattle.record_messages.proofs.may_send.Goals as goal
 
 pub returns-in-Secure : goal.returns-in-Secure

@@ -1,8 +1,7 @@
--- `sent` is `sent`. Three ways out: a pending interrupt that is unchanged (returns-then-on-is_pending), the latch of an edge interrupt (returns-then-edge_of), the
--- message level of another (returns-else-edge_of).
+-- `sent` is `sent`. Three ways out: a pending interrupt that is unchanged (returns-then-on-is_pending), the latch of an edge interrupt
+-- (returns-then-edge_of), the message level of another (returns-else-edge_of).
 use Rattle.meaning.specs.Rule.{sent}
 use Rattle.meaning.proofs.Bytes.{encode-decode}
-use borrow.Author.Rules.{rules}
 use Rattle.record_messages.proofs.sent.Goals as goal
 
 pub returns-then-on-is_pending : goal.returns-then-on-is_pending

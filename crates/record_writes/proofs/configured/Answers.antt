@@ -1,9 +1,9 @@
--- `configured` is `configured`. Two ways out: the field is unchanged (returns-then-soft-has), and the trigger changes (returns-else-soft-has).
+-- `configured` is `configured`. Two ways out: the field is unchanged (returns-then-soft-has), and the trigger changes
+-- (returns-else-soft-has).
 use Rattle.meaning.specs.Cell.{get}
 use Rattle.meaning.specs.Rule.{configured, fixed_field}
 use Rattle.meaning.proofs.Bytes.{encode-decode}
 use Rattle.record_bits.proofs.Puts.{decode-put}
-use borrow.Author.Rules.{rules}
 use Rattle.record_writes.proofs.configured.Goals as goal
 
 pub returns-then-soft-has : goal.returns-then-soft-has

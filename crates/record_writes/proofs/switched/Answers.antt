@@ -1,9 +1,9 @@
--- `writes::switched` is `switched`. Two ways out: a written 1 (returns-then-d-eq1), and any other digit, which leaves the record (returns-else-d-eq1).
+-- `writes::switched` is `switched`. Two ways out: a written 1 (returns-then-d-eq1), and any other digit, which leaves the record
+-- (returns-else-d-eq1).
 use borrow.Author.Tests.{ne_eqb}
 use Rattle.meaning.specs.Rule.{switched}
 use Rattle.meaning.proofs.Bytes.{encode-decode}
 use Rattle.meaning.proofs.Cells.{put-get}
-use borrow.Author.Rules.{rules}
 use Rattle.record_writes.proofs.switched.Goals as goal
 
 pub returns-then-d-eq1 : goal.returns-then-d-eq1

@@ -1,10 +1,10 @@
--- `touched` is `touched`. Two ways out: the gate open (returns-then-implemented-may_touch), and shut, where the record is unchanged (returns-else-implemented-may_touch).
+-- `touched` is `touched`. Two ways out: the gate open (returns-then-implemented-may_touch), and shut, where the record is unchanged
+-- (returns-else-implemented-may_touch).
 use Rattle.types.specs.declared.Way.TheVariants.{Write}
 use Rattle.meaning.specs.Cell.{decode}
 use Rattle.meaning.specs.Rule.{reaches}
 use Rattle.meaning.proofs.Bytes.{encode-decode}
 use Rattle.record_writes.specs.Touched.{touched}
-use borrow.Author.Rules.{rules}
 use Rattle.record_writes.proofs.touched.Goals as goal
 
 pub returns-then-implemented-may_touch : goal.returns-then-implemented-may_touch

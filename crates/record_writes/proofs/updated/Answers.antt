@@ -1,6 +1,6 @@
--- `writes::updated` is `update`. Three ways out: a switched state (returns-in-Switched), a guarded bit (returns-in-Guarded), the trigger (returns-in-Trigger).
+-- `writes::updated` is `update`. Three ways out: a switched state (returns-in-Switched), a guarded bit (returns-in-Guarded), the trigger
+-- (returns-in-Trigger).
 use Rattle.meaning.specs.Rule.{update}
-use borrow.Author.Rules.{rules}
 use Rattle.record_writes.proofs.updated.Goals as goal
 
 pub returns-in-Switched : goal.returns-in-Switched

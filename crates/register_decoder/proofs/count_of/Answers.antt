@@ -1,5 +1,4 @@
 -- `count_of` counts a word's digits. Ways out: a low word of the Distributor; another of its words; the Redistributor's.
-use borrow.Author.Rules.{rules}
 use borrow.Author.Tests.{lt-ltb, le-ltb}
 use Rattle.register_decoder.proofs.count_of.Goals as goal
 

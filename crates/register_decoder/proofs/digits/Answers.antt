@@ -1,7 +1,6 @@
 -- `digits` is the window of a word, whose INTIDs are small numbers. One way out.
 use Prim.Native.Nat.{◌*◌, ◌<◌}
 use native.Mathlib.Omega.{arith}
-use borrow.Author.Rules.{rules}
 use Rattle.register_families.proofs.Rows.{tidy_row}
 use Rattle.register_decoder.proofs.digits.Goals as goal
 

@@ -1,5 +1,4 @@
 -- `if_wide` refuses a place that is narrower than its register. Ways out: a refusal that was there; the place; refusal 6.
-use borrow.Author.Rules.{rules}
 use Rattle.register_decoder.proofs.if_wide.Goals as goal
 
 pub returns-then-wide_enough : goal.returns-then-wide_enough

@@ -4,7 +4,6 @@ use mathlib.Core.Bool.{true, ◌||◌, true≢false}
 use Prim.Native.Nat.{ℕ, zero, suc, ◌<◌}
 use native.Mathlib.Omega.{arith}
 use lib.Dec.{eqb}
-use borrow.Author.Rules.{rules}
 use borrow.Author.Tests.{lt-ltb, le-ltb, eq-eqb, ne_eqb}
 use Rattle.meaning.specs.Registers.{place_of}
 use Rattle.register_decoder.proofs.place_of.Goals as goal

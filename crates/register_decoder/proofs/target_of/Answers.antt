@@ -1,6 +1,5 @@
 -- `target_of` is what a place stands for. Ways out: one for each kind of place.
 use native.Mathlib.Omega.{arith}
-use borrow.Author.Rules.{rules}
 use Rattle.meaning.specs.Registers.{target_of}
 use Rattle.register_decoder.proofs.Windows.{origin_base, word_digits, extended_digits}
 use Rattle.register_decoder.proofs.target_of.Goals as goal

@@ -1,5 +1,4 @@
 -- `wide_enough` tells the widths of a place. Ways out: one for each kind of place.
-use borrow.Author.Rules.{rules}
 use Rattle.register_decoder.proofs.wide_enough.Goals as goal
 
 pub returns-in-Word : goal.returns-in-Word

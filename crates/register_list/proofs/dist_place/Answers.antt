@@ -1,5 +1,4 @@
 -- `dist_place` finds an entry's place in the Distributor. Ways out: one for each kind of entry.
-use borrow.Author.Rules.{rules}
 use Rattle.register_list.specs.Entry.{place_in}
 use Rattle.register_list.proofs.dist_place.Goals as goal
 

@@ -1,5 +1,4 @@
 -- `entry_at` finds what stands at an offset. Ways out: by the map, in the first 4 KiB; by the extended words.
-use borrow.Author.Rules.{rules}
 use borrow.Author.Tests.{lt-ltb, le-ltb}
 use Rattle.register_list.specs.Entry.{entry_at}
 use Rattle.register_list.proofs.entry_at.Goals as goal

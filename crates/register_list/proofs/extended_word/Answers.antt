@@ -1,5 +1,4 @@
 -- `extended_word` finds the place of an extended word. Ways out: no such word; its place.
-use borrow.Author.Rules.{rules}
 use borrow.Author.Tests.{lt-ltb, le-ltb}
 use Rattle.register_list.specs.Entry.{place_in}
 use Rattle.register_list.proofs.extended_word.Goals as goal

@@ -1,5 +1,4 @@
 -- `listed_at` is the meaning's list of the words: an entry's place agrees with it. Ways out: one a frame.
-use borrow.Author.Rules.{rules}
 use Rattle.register_list.proofs.Agree.{agree}
 use Rattle.register_list.proofs.listed_at.Goals as goal
 

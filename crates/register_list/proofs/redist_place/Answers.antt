@@ -1,5 +1,4 @@
 -- `redist_place` finds an entry's place in the Redistributor. Ways out: a word of a family, or nothing, for each kind of entry.
-use borrow.Author.Rules.{rules}
 use Rattle.register_list.specs.Entry.{place_in}
 use Rattle.register_list.proofs.redist_place.Goals as goal
 

@@ -1,6 +1,5 @@
 -- `redist_word` finds the place of a word of the Redistributor. Ways out: no such word; SGIs and PPIs; extended PPIs.
 use native.Mathlib.Omega.{arith}
-use borrow.Author.Rules.{rules}
 use borrow.Author.Tests.{lt-ltb, le-ltb}
 use Rattle.meaning.specs.Registers.{per_word}
 use Rattle.register_families.proofs.Rows.{tidy_row}

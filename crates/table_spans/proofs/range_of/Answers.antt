@@ -1,8 +1,8 @@
--- `range_of` is `range_of`. Four ways out: SPIs (returns-then-m-lt1020), SGIs and PPIs (returns-then-m-lt32), extended SPIs (returns-else-m-lt1020), extended PPIs (returns-else-m-lt32).
+-- `range_of` is `range_of`. Four ways out: SPIs (returns-then-m-lt1020), SGIs and PPIs (returns-then-m-lt32), extended SPIs
+-- (returns-else-m-lt1020), extended PPIs (returns-else-m-lt32).
 use mathlib.Core.Path.{refl}
 use native.Mathlib.Omega.{arith}
 use borrow.Author.Tests.{lt-ltb, le-ltb}
-use borrow.Author.Rules.{rules}
 use Rattle.table_spans.specs.Span.{range_of}
 use Rattle.table_spans.proofs.Ranges.{limits}
 use Rattle.table_spans.proofs.range_of.Goals as goal

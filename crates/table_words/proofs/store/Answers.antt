@@ -2,7 +2,6 @@
 -- modifier word, and a trigger word.
 use mathlib.Core.Path.{sym, ap, ◌∙◌}
 use Rattle.types.specs.declared.Row.{Row}
-use borrow.Author.Rules.{rules}
 use Rattle.table_words.proofs.store.Goals as goal
 
 pub jump-requires-clause-family_value : goal.jump-requires-clause-family_value

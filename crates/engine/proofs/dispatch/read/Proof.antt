@@ -1,4 +1,5 @@
--- `read` is what its target shows. Three ways out: a register word (returns-in-Digits), TYPER (returns-in-Typer), a message register (returns-in-Message).
+-- `read` is what its target shows. Three ways out: a register word (returns-in-Digits), TYPER (returns-in-Typer), a message register
+-- (returns-in-Message).
 use Rattle.engine.proofs.Rooms.{digits_bank, read_digits, read_typer, read_message}
 use mathlib.Core.Path.{◌∙◌}
 use borrow.Author.Rules.{rules}

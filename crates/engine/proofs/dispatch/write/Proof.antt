@@ -1,5 +1,5 @@
--- `write` leaves both tables as the target asks. Four ways out: a register word of the Distributor (returns-in-Dist) and of the Redistributor
--- (returns-in-Redist), TYPER (returns-in-Typer), a message register (returns-in-Message).
+-- `write` leaves both tables as the target asks. Four ways out: a register word of the Distributor (returns-in-Dist) and of the
+-- Redistributor (returns-in-Redist), TYPER (returns-in-Typer), a message register (returns-in-Message).
 use Rattle.engine.proofs.Rooms.{dist_bank, redist_bank, message_bank, wrote_dist, wrote_redist, wrote_nothing, wrote_message}
 use borrow.Author.Rules.{rules}
 use Rattle.engine.proofs.dispatch.write.Statement.{statement}

@@ -1,5 +1,5 @@
--- `send` delivers at the slot of the INTID that the value names. Three ways out: no messages (returns-then-not-shape), a slot (returns-then-start-span), no slot
--- (returns-else-start-span).
+-- `send` delivers at the slot of the INTID that the value names. Three ways out: no messages (returns-then-not-shape), a slot
+-- (returns-then-start-span), no slot (returns-else-start-span).
 use mathlib.Core.Path.{ap, ◌∙◌}
 use Prim.Native.Nat.{◌%◌}
 use native.Mathlib.Omega.{arith}

@@ -1,5 +1,5 @@
--- `part` lends the records of a span: the slice lies inside the bank's records in either frame. Two ways out: the Distributor's (returns-in-Dist)
--- and the Redistributor's (returns-in-Redist).
+-- `part` lends the records of a span: the slice lies inside the bank's records in either frame. Two ways out: the Distributor's
+-- (returns-in-Dist) and the Redistributor's (returns-in-Redist).
 use borrow.Author.Rules.{rules}
 use Rattle.engine.proofs.word.part.Statement.{statement}
 use Rattle.engine.proofs.word.part.Tie as tie

@@ -1,4 +1,4 @@
--- The first `used` bytes are taken; ₀ is what was lent, and the state at the loop's start. The measure is how many are left.
+-- The first `used` bytes are taken; ₀ is what was lent, and the state at the loop's start. The measure is how many remain.
 use Rattle.std.proofs.Common.{◌≡◌, List, ℕ, ◌-◌, length, take}
 use Rattle.replay_meaning.specs.Replay.{all_present}
 use Rattle.replay_meaning.specs.Stream.{within}

@@ -1,5 +1,5 @@
--- `read::begins` is `begins_with`. Three ways out: a text shorter than the key (returns-then-text-key), a byte that is not the key's (returns-then-key-i), and
--- the key's end (returns). The measure is how many bytes of the key are still to be compared.
+-- `read::begins` is `begins_with`. Three ways out: a text shorter than the key (returns-then-text-key), a byte that is not the key's
+-- (returns-then-key-i), and the key's end (returns). The measure is how many bytes of the key are still to be compared.
 use borrow.Author.Rules.{rules}
 use mathlib.Core.Path.{◌≡◌, refl, sym, ◌∙◌}
 use mathlib.Core.Bool.{◌&&◌}

@@ -1,5 +1,6 @@
--- `read::digits` is `digits_after 0`. Four ways out: a byte below the digit 0 (returns-then-b-lt48), one above the digit 9 (returns-then-b-gt57), a number past
--- the limit (returns-then-n-gt4294967295), and the text's end (returns). The measure is how many bytes are still to be read.
+-- `read::digits` is `digits_after 0`. Four ways out: a byte below the digit 0 (returns-then-b-lt48), one above the digit 9
+-- (returns-then-b-gt57), a number past the limit (returns-then-n-gt4294967295), and the text's end (returns). The measure is how many bytes
+-- are still to be read.
 use borrow.Author.Rules.{rules}
 use mathlib.Core.Path.{◌≡◌, refl, sym, ◌∙◌}
 use mathlib.Core.Bool.{cond}

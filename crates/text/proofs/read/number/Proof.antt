@@ -1,5 +1,5 @@
--- `read::number` is `number_in`. Three ways out: an empty text (returns-then-text-eq0), one with a leading zero (returns-then-leads_with_zero), and any other, whose digits
--- are read (returns).
+-- `read::number` is `number_in`. Three ways out: an empty text (returns-then-text-eq0), one with a leading zero
+-- (returns-then-leads_with_zero), and any other, whose digits are read (returns).
 use borrow.Author.Rules.{rules}
 use borrow.Author.Tests.{eq-eqb, ne_eqb}
 use Rattle.text.specs.Number.{number_in}

@@ -1,4 +1,5 @@
--- `read::same` is `same_text`. Two ways out: texts of different lengths (returns-then-other-text), and texts of one length, compared (returns).
+-- `read::same` is `same_text`. Two ways out: texts of different lengths (returns-then-other-text), and texts of one length, compared
+-- (returns).
 use borrow.Author.Rules.{rules}
 use borrow.Author.Tests.{eq-eqb, ne_eqb}
 use Rattle.text.specs.Text.{same_text}
