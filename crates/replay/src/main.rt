@@ -2,7 +2,7 @@
 // replay_stream and `finish` of replay_state, and is proved there. This crate reads and writes: no contract can say what a system
 // call moved.
 // A failed read or write ends it at once, with a word on standard error and without bad= or end=, so that an output that was cut
-// short is not taken for a whole one. It is also what `main` answers.
+// short is not taken for a whole one. It is also what `main` answers, so the exit status is 1.
 #![tactic(auto)]
 
 ghost use Rattle.std.specs.Prelude.{◌≡◌, ◌≤◌, length};
