@@ -12,7 +12,7 @@ use Rattle.types.specs.declared.Side.TheVariants.{Secure, NonSecure}
 use Rattle.types.specs.declared.Shape.{Shape}
 use Rattle.types.specs.declared.Way.{Way}
 use Rattle.types.specs.declared.Way.TheVariants.{Read, Write}
-use Rattle.types.specs.declared.Bit.TheVariants.{Latch, Wire, MessageLevel, Active, Group, Modifier}
+use Rattle.types.specs.declared.Bit.TheVariants.{Latch, MessageLevel, Active}
 use Rattle.types.specs.declared.Switch.{Switch}
 use Rattle.types.specs.declared.Switch.TheVariants as switch
 use Rattle.types.specs.declared.Guard.{Guard}

@@ -18,7 +18,6 @@ use Rattle.text.specs.declared.Number.TheVariants.{Is, Bad}
 use Rattle.text.specs.Text.{bytes}
 use Rattle.text.specs.Number.{numbered}
 use Rattle.replay_keys.specs.declared.Key.{Key}
-use Rattle.replay_keys.specs.declared.Key.TheVariants as key
 use Rattle.replay_keys.specs.Keys.{rank, after, field_of}
 use Rattle.replay_meaning.specs.declared.Progress.{Progress}
 

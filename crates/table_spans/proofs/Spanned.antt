@@ -20,7 +20,7 @@ use Rattle.types.specs.declared.Frame.TheVariants.{Dist, Redist}
 use Rattle.types.specs.declared.Shape.{Shape}
 use Rattle.meaning.specs.Interrupt.{Interrupt, intid, interrupt, between}
 use Rattle.meaning.specs.Layout.{Tables, presence_of, presence_words, slots, shape_fits, in_range}
-use Rattle.meaning.specs.Layout.{Home, slot, home_of, interrupt_at, present_at, implemented}
+use Rattle.meaning.specs.Layout.{Home, home_of, interrupt_at, present_at, implemented}
 use Rattle.meaning.proofs.Homes.{between_low, between_high, home_back}
 use Rattle.table_spans.specs.declared.Range.{Range}
 use Rattle.table_spans.specs.declared.Span.{Span}

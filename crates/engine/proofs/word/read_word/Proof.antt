@@ -8,7 +8,7 @@ use Rattle.meaning.specs.Layout.{lent, records_of}
 use Rattle.table_words.specs.Part.{FitsWord, Numbered, gathered}
 use Rattle.table_spans.specs.declared.Span.{Span}
 use Rattle.table_spans.proofs.Spanned.{Bounded}
-use Rattle.engine.specs.Bank.{part, word_of, read_in}
+use Rattle.engine.specs.Bank.{word_of, read_in}
 use Rattle.engine.proofs.Uses.{asked, end_inside, fewer, fitting}
 use borrow.Author.Rules.{rules}
 use Rattle.engine.proofs.word.read_word.Statement.{statement}
