@@ -60,6 +60,7 @@ fn digits(text: &[u8]) -> Number
     Number::Is(n as u32)
 }
 
+#[tactic(auto, unfolding(crate::specs::Number::leading_zero))]
 fn leads_with_zero(text: &[u8]) -> bool
     ensures { result ≡ leading_zero text.now }
 {
