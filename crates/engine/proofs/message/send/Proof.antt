@@ -15,19 +15,23 @@ use borrow.Author.Tests.{not-true, not-false}
 use Rattle.engine.proofs.message.send.Statement.{statement}
 use Rattle.engine.proofs.message.send.Tie as tie
 
--- the span, once it is known
+-- once the span is known
+abbrev entry : tie.After-span_of-span → tie.Start
+entry c = c.before.before.before.before.before
+
 abbrev P : tie.After-span_of-span → Span
 P c = c.span_of-span.result
 
 inside : (c : tie.After-span_of-span) → Bounded Dist 1 (P c)
 inside c =
-    let a = c.args in
-    asked a.shape Dist a.records.now a.presence.now (a.value % 8192) 1 (P c) c.requires (omega arith) c.span_of-span.ensures
+    let e = entry c in
+    asked e.args.shape Dist e.args.records.now e.args.presence.now (e.args.value % 8192) 1 (P c) e.requires (omega arith)
+    c.span_of-span.ensures
 
 returns-then-not-shape : tie.Need-returns-then-not-shape
 returns-then-not-shape c i h =
-    let a = c.args in
-    sent_off a.shape a.side a.message i _ a.records.now (not-true _ c.if-not-shape.true)
+    let e = c.before.before.before.before in
+    sent_off e.args.shape e.args.side e.args.message i _ e.args.records.now (not-true _ c.if-not-shape.true)
 
 span_of-span-requires : tie.Need-span_of-span-requires
 span_of-span-requires c κs = search rules
@@ -36,7 +40,7 @@ bounds-records-start : tie.Need-bounds-records-start
 bounds-records-start c =
     let s = c.before.before.before.before in
     let b = (inside s).inside in
-    let l = c.requires.slots_lent in
+    let l = (entry s).requires.slots_lent in
     let t = c.if-start-span.true in omega arith
 
 deliver-requires : tie.Need-deliver-requires
@@ -46,7 +50,7 @@ bounds-records-start-then-start-span : tie.Need-bounds-records-start-then-start-
 bounds-records-start-then-start-span c =
     let s = c.before.before.before.before.before in
     let b = (inside s).inside in
-    let l = c.requires.slots_lent in
+    let l = (entry s).requires.slots_lent in
     let t = c.if-start-span.true in omega arith
 
 shape_of-records : tie.Need-shape_of-records
@@ -55,7 +59,7 @@ shape_of-records c = search rules
 returns-then-start-span : tie.Need-returns-then-start-span
 returns-then-start-span c i h =
     let s = c.before.before.before.before.before in
-    let a = c.args in
+    let a = (entry s).args in
     ap (set a.records.now (P s).start) (c.deliver.ensures a.shape i h)
     ∙ (at_slot (delivered a.shape a.side a.message i) (P s) a.records.now c.if-start-span.true
     ∙ (sent_on a.shape a.side a.message i (P s) a.records.now (not-false _ s.if-not-shape.false)
@@ -64,7 +68,7 @@ returns-then-start-span c i h =
 returns-else-start-span : tie.Need-returns-else-start-span
 returns-else-start-span c i h =
     let s = c.before.before.before in
-    let a = c.args in
+    let a = (entry s).args in
     at_none (delivered a.shape a.side a.message i) (P s) a.records.now c.if-start-span.false
     ∙ (sent_on a.shape a.side a.message i (P s) a.records.now (not-false _ s.if-not-shape.false)
     ∙ ap (λ (p : Span). sent_in a.shape a.side a.message i p a.records.now) s.span_of-span.ensures)
