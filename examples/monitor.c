@@ -4,7 +4,8 @@
  *     read SIDE ADDRESS SIZE          write SIDE ADDRESS SIZE VALUE      SIDE s or ns, ADDRESS and VALUE in hex
  *     wire INTID LEVEL                activate SIDE INTID                deactivate SIDE INTID                reset
  *
- * Lines that begin with # and empty lines are passed over. Build: cc -Iinclude examples/monitor.c target/staticlib/libberduzhika.a */
+ * Lines that begin with # and empty lines are passed over.
+ * Build: cc -Iinclude examples/monitor.c crates/berduzhika/out/libberduzhika.a */
 #include "berduzhika.h"
 #include <stdio.h>
 #include <string.h>
