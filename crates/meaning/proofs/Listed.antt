@@ -1,6 +1,6 @@
 -- Document 01's order of refusals and its table of registers, as laws of `place_of`.
---   width-refused .. unlisted-refused    refusals 2 to 5, each where no earlier one applies, whatever comes after it
---   half-refused      width 2 beside a register's own offset goes nowhere, and at a register word it is refusal 6
+--   width_refused .. unlisted_refused    refusals 2 to 5, each where no earlier one applies, whatever comes after it
+--   half_narrow       width 2 beside a register's own offset goes nowhere, and at a register word it is refusal 6
 --   res0_reads, res0_left    the Distributor's low words read 0 and ignore writes, for both sides
 --   columns           kinds, digits, counts and offsets of the rows hang together as Arm's map has them
 --   visible_small     a digit that is read fits its family's bits

@@ -1,7 +1,7 @@
 -- WHAT THE NON-SECURE SIDE SETS, IT READS BACK. After a write of v to a set register (enable, pending, active) the word reads: the old
 -- word, or v and the owned bits; after a write to a clear register (enable, active): the old word, and not v. Exactly, in every digit.
 --   word_read_lem      what a read shows, at any listed word
---   read-back, cleared_back   on the lent tables, at any listed word of the kind
+--   read_back, cleared_back   on the lent tables, at any listed word of the kind
 --   ispendr_back   the demand's own: every listed word of ISPENDR is such
 --   icenabler_back, icactiver_back   and every listed word of these, of the clear words
 --   set_pending    those of ISPENDR offset by offset

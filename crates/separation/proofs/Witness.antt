@@ -2,7 +2,7 @@
 -- takes a step, each with private steps of its own, and answers to the Non-secure side that are not zero. SPIs 300 and 301 are Non-secure,
 -- 301 pending; SPIs 44, the wheel-speed tick, and 45 to 48 are Secure; 400 is missing.
 --   alike                          the tables are alike, though a Secure and a missing interrupt's records differ
---   witness                        the theorem, at these tables and runs; plain-witness at runs without steps in common, in bytes
+--   witness                        the theorem, at these tables and runs; plain_witness at runs without steps in common, in bytes
 --   first_heard, second_heard      what the Non-secure side is answered in each: 0x2000, done, 0x3000
 --   first_apart, second_apart      SPI 45's record where it takes its steps: 0 in one run, 4 in the other
 --   none_heard                     the same answers from the table where no Secure interrupt exists

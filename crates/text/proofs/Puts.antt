@@ -1,5 +1,5 @@
--- Laws of `Put`, the record of what writing a text into a lent buffer does: of no byte (put-none), of one byte (put_one), of a whole
--- text copied (put-paste), and that two texts put one after the other are the joined text put (put_both).
+-- Laws of `Put`, the record of what writing a text into a lent buffer does: of no byte (put_none), of one byte (put_one), of a whole
+-- text copied (put_paste), and that two texts put one after the other are the joined text put (put_both).
 use mathlib.Core.Path.{◌≡◌, refl, sym, ap, ◌∙◌}
 use mathlib.Core.List.{List, [], ◌∷◌, ◌++◌, append_assoc, append-nil}
 use Prim.Native.Nat.{ℕ, ◌+◌, ◌<◌, ◌≤◌}
