@@ -1,9 +1,7 @@
 -- The answer as one number of 64 bits, and what is answered before there is a request.
-use Rattle.std.specs.Prelude.{Bool, true, false, ℕ, ◌+◌, ◌*◌, ◌/◌, ◌%◌, ◌^◌}
+use Rattle.std.specs.Prelude.{Bool, true, false, ℕ, ◌+◌, ◌*◌, ◌/◌, ◌%◌, ◌^◌, Err}
 use Rattle.types.specs.declared.Refusal.TheVariants as refusal
-use Rattle.types.specs.declared.Answer.{Answer}
-use Rattle.types.specs.declared.Answer.TheVariants.{Refused}
-use Rattle.meaning.specs.Answers.{status_of, value_of}
+use Rattle.meaning.specs.Answers.{Answer, status_of, value_of}
 
 -- THE ANSWER AS ONE NUMBER: status · 2^32 + value
 abbrev pub joined : ℕ → ℕ → ℕ
@@ -23,5 +21,5 @@ value_in n = n % 2 ^ 32
 -- refusal 1, where mbis, a number of the shape, is neither 0 nor 1. 0 lets the request pass.
 unfoldable pub shut : Bool → Bool → ℕ
 shut false sound = joined 100 0
-shut true false = code_of (Refused refusal.Shape)
+shut true false = code_of (Err refusal.Shape)
 shut true true = 0

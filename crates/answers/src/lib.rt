@@ -26,8 +26,8 @@ pub fn status_of(answer: Answer) -> u32
     ensures { result ≡ status_of answer }
 {
     match answer {
-        Answer::Done(_) => 0,
-        Answer::Refused(r) => number_of(r),
+        Ok(_) => 0,
+        Err(r) => number_of(r),
     }
 }
 
@@ -35,7 +35,7 @@ pub fn value_of(answer: Answer) -> u32
     ensures { result ≡ value_of answer }
 {
     match answer {
-        Answer::Done(v) => v,
-        Answer::Refused(_) => 0,
+        Ok(v) => v,
+        Err(_) => 0,
     }
 }

@@ -1,5 +1,6 @@
 -- Every value that the machine answers fits 32 bits, so that a number of 64 bits holds a status and a value.
 --   value_fits    whatever the step and the tables
+use Rattle.std.specs.Prelude.{Ok, Err}
 use mathlib.Core.Path.{◌≡◌, refl, subst}
 use mathlib.Core.Bool.{Bool, true, false, cond, not, ◌&&◌}
 use Prim.Native.Nat.{ℕ, ◌+◌, ◌^◌, ◌≤◌, ◌<◌}
@@ -19,13 +20,9 @@ use Rattle.types.specs.declared.Window.{Window}
 use Rattle.types.specs.declared.Target.{Target}
 use Rattle.types.specs.declared.Target.TheVariants as target
 use Rattle.types.specs.declared.Refusal.TheVariants as refusal
-use Rattle.types.specs.declared.Decoded.{Decoded}
-use Rattle.types.specs.declared.Decoded.TheVariants as decoded
-use Rattle.types.specs.declared.Answer.{Answer}
-use Rattle.types.specs.declared.Answer.TheVariants.{Done, Refused}
 use Rattle.meaning.specs.Interrupt.{Interrupt, interrupt, named, sgi}
 use Rattle.meaning.specs.Cell.{Cell, pending}
-use Rattle.meaning.specs.Answers.{value_of}
+use Rattle.meaning.specs.Answers.{Answer, Decoded, value_of}
 use Rattle.meaning.specs.Layout.{Tables, well_formed, cell_of}
 use Rattle.meaning.specs.Registers.{kind_of, bits_of, place_of, target_of}
 use Rattle.meaning.specs.Rule.{Step, access, happens, reset, visible, sees_by, ready, event_answer}
@@ -66,10 +63,10 @@ module _ (s : Shape) (t : Tables) (well : well_formed s t ≡ true) where
   read_lt side (target.Message g) cells room = omega arith
 
   access_lt : (a : Access) (d : Decoded) → place_of a ≡ d → (cells : Cells) → value_of (access_answer s a d cells) < 2 ^ 32
-  access_lt a (decoded.Refused r) e cells = omega arith
-  access_lt a (decoded.At p) e cells = by a.way
+  access_lt a (Err r) e cells = omega arith
+  access_lt a (Ok p) e cells = by a.way
     where
-      by : (w : Way) → value_of (elim w as (λ z. Answer) [ Read ↦ Done (read s a.side (target_of p) cells) | Write ↦ Done 0 ]) < 2 ^ 32
+      by : (w : Way) → value_of (elim w as (λ z. Answer) [ Read ↦ Ok (read s a.side (target_of p) cells) | Write ↦ Ok 0 ]) < 2 ^ 32
       by Read = read_lt a.side (target_of p) cells (target_fits s t well a p e)
       by Write = omega arith
 
@@ -79,17 +76,17 @@ module _ (s : Shape) (t : Tables) (well : well_formed s t ≡ true) where
   choice_lt false x y h k = k
 
   ready_lt : (e : Event) (i : Interrupt) (c : Cell) → value_of (ready s e i c) < 2 ^ 32
-  ready_lt (event.Wire level) i c = choice_lt (sgi i) (Refused refusal.SgiWire) (Done 0) (omega arith) (omega arith)
+  ready_lt (event.Wire level) i c = choice_lt (sgi i) (Err refusal.SgiWire) (Ok 0) (omega arith) (omega arith)
   ready_lt (event.Activate side) i c =
-      choice_lt (c.enabled && (pending s i c && not c.active)) (Done 0) (Refused refusal.State) (omega arith) (omega arith)
-  ready_lt (event.Deactivate side) i c = choice_lt c.active (Done 0) (Refused refusal.State) (omega arith) (omega arith)
+      choice_lt (c.enabled && (pending s i c && not c.active)) (Ok 0) (Err refusal.State) (omega arith) (omega arith)
+  ready_lt (event.Deactivate side) i c = choice_lt c.active (Ok 0) (Err refusal.State) (omega arith) (omega arith)
 
   answer_lt : (q : Step) (cells : Cells) → value_of (answer s q cells) < 2 ^ 32
   unfolding answer event_answer
   answer_lt (access a) cells = access_lt a (place_of a) refl cells
   answer_lt (happens e m) cells =
       choice_lt ((cells (named m)).implemented && sees_by e (cells (named m))) (ready s e (named m) (cells (named m)))
-      (Refused refusal.Intid) (ready_lt e (named m) (cells (named m))) (omega arith)
+      (Err refusal.Intid) (ready_lt e (named m) (cells (named m))) (omega arith)
   answer_lt reset cells = omega arith
 
 pub value_fits : (s : Shape) (q : Step) (t : Tables) → value_of (stepped s q t).answered < 2 ^ 32
@@ -99,7 +96,7 @@ value_fits s q t = by (well_formed s t) refl
     by : (b : Bool) → well_formed s t ≡ b
         → value_of
         (cond {A = Outcome} b (record { answered = answer s q (cell_of s t); tables = tables_after s q t })
-        (record { answered = Refused refusal.Shape; tables = t })).answered
+        (record { answered = Err refusal.Shape; tables = t })).answered
         < 2 ^ 32
     by true h = answer_lt s t h q (cell_of s t)
     by false h = omega arith

@@ -1,4 +1,5 @@
 -- The promise of an exported function leaves no choice, and its number gives the status and the value back.
+use Rattle.std.specs.Prelude.{Ok, Err}
 use mathlib.Core.Path.{◌≡◌, refl, sym, ap, ap₂, ◌∙◌}
 use mathlib.Core.Bool.{Bool, cond}
 use Prim.Native.Nat.{ℕ, ◌^◌, ◌<◌}
@@ -7,9 +8,7 @@ use lib.Dec.{eqb}
 use Rattle.types.specs.declared.Shape.{Shape}
 use Rattle.types.specs.declared.Refusal.{Refusal}
 use Rattle.types.specs.declared.Refusal.TheVariants as refusal
-use Rattle.types.specs.declared.Answer.{Answer}
-use Rattle.types.specs.declared.Answer.TheVariants.{Done, Refused}
-use Rattle.meaning.specs.Answers.{status_of, value_of}
+use Rattle.meaning.specs.Answers.{Answer, status_of, value_of}
 use Rattle.meaning.specs.Layout.{Tables}
 use Rattle.meaning.specs.Rule.{Step}
 use Rattle.meaning.specs.Step.{stepped}
@@ -49,20 +48,20 @@ refusal_of n =
     (cond (eqb n 6) refusal.Narrow (cond (eqb n 7) refusal.Intid (cond (eqb n 8) refusal.SgiWire refusal.State)))))))
 
 answer_of : ℕ → ℕ → Answer
-answer_of status value = cond (eqb status 0) (Done value) (Refused (refusal_of status))
+answer_of status value = cond (eqb status 0) (Ok value) (Err (refusal_of status))
 
 answer_back : (a : Answer) → answer_of (status_of a) (value_of a) ≡ a
 unfolding answer_of refusal_of
-answer_back (Done v) = refl
-answer_back (Refused refusal.Shape) = refl
-answer_back (Refused refusal.Width) = refl
-answer_back (Refused refusal.Alignment) = refl
-answer_back (Refused refusal.Offset) = refl
-answer_back (Refused refusal.Unlisted) = refl
-answer_back (Refused refusal.Narrow) = refl
-answer_back (Refused refusal.Intid) = refl
-answer_back (Refused refusal.SgiWire) = refl
-answer_back (Refused refusal.State) = refl
+answer_back (Ok v) = refl
+answer_back (Err refusal.Shape) = refl
+answer_back (Err refusal.Width) = refl
+answer_back (Err refusal.Alignment) = refl
+answer_back (Err refusal.Offset) = refl
+answer_back (Err refusal.Unlisted) = refl
+answer_back (Err refusal.Narrow) = refl
+answer_back (Err refusal.Intid) = refl
+answer_back (Err refusal.SgiWire) = refl
+answer_back (Err refusal.State) = refl
 
 code_back : (a : Answer) → value_of a < 2 ^ 32 → answer_of (status_in (code_of a)) (value_in (code_of a)) ≡ a
 unfolding code_of
@@ -74,16 +73,16 @@ apart a b h k e = sym (code_back a h) ∙ (ap (λ (n : ℕ). answer_of (status_i
 
 -- 100 is no status of document 01's: a request that was let pass is never answered as one that named nothing.
 below_ten : (a : Answer) → status_of a < 10
-below_ten (Done v) = omega arith
-below_ten (Refused refusal.Shape) = omega arith
-below_ten (Refused refusal.Width) = omega arith
-below_ten (Refused refusal.Alignment) = omega arith
-below_ten (Refused refusal.Offset) = omega arith
-below_ten (Refused refusal.Unlisted) = omega arith
-below_ten (Refused refusal.Narrow) = omega arith
-below_ten (Refused refusal.Intid) = omega arith
-below_ten (Refused refusal.SgiWire) = omega arith
-below_ten (Refused refusal.State) = omega arith
+below_ten (Ok v) = omega arith
+below_ten (Err refusal.Shape) = omega arith
+below_ten (Err refusal.Width) = omega arith
+below_ten (Err refusal.Alignment) = omega arith
+below_ten (Err refusal.Offset) = omega arith
+below_ten (Err refusal.Unlisted) = omega arith
+below_ten (Err refusal.Narrow) = omega arith
+below_ten (Err refusal.Intid) = omega arith
+below_ten (Err refusal.SgiWire) = omega arith
+below_ten (Err refusal.State) = omega arith
 
 pub hundred_alone : (s : Shape) (q : Step) (t : Tables) → (returned (stepped s q t)).code ≡ joined 100 0 → ⊥
 unfolding code_of

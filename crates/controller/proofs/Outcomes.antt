@@ -4,6 +4,7 @@
 --   access_served     an access at a place
 --   event_happened    an event on an interrupt of a frame
 --   all_cleared       reset
+use Rattle.std.specs.Prelude.{Ok, Err}
 use mathlib.Core.Path.{◌≡◌, refl, sym, ap, subst, ◌∙◌}
 use mathlib.Core.Bool.{Bool, true, false, cond, ◌||◌}
 use mathlib.Core.List.{List}
@@ -23,10 +24,7 @@ use Rattle.types.specs.declared.Place.{Place}
 use Rattle.types.specs.declared.Target.{Target}
 use Rattle.types.specs.declared.Refusal.{Refusal}
 use Rattle.types.specs.declared.Refusal.TheVariants as refusal
-use Rattle.types.specs.declared.Decoded.{Decoded}
-use Rattle.types.specs.declared.Decoded.TheVariants as decoded
-use Rattle.types.specs.declared.Answer.{Answer}
-use Rattle.types.specs.declared.Answer.TheVariants.{Done, Refused}
+use Rattle.meaning.specs.Answers.{Answer, Decoded}
 use Rattle.meaning.specs.Interrupt.{Interrupt, shared, same, interrupt, frame_of, named, sgi, between}
 use Rattle.meaning.specs.Layout.{Tables, lent, records_of, presence_of, well_formed, interrupt_at, cell_of}
 use Rattle.meaning.specs.Registers.{place_of, written_value, target_of}
@@ -67,7 +65,7 @@ sgi_below m Dist e = by (ltb m 16) refl
     by true h = let z : Dist ≡ Redist = sym e ∙ low h in cc
 
 pub ill : (s : Shape) (q : Step) (t : Tables) → well_formed s t ≡ false
-    → record { answered = Refused refusal.Shape; tables = t } ≡ stepped s q t
+    → record { answered = Err refusal.Shape; tables = t } ≡ stepped s q t
 unfolding stepped
 ill s q t h = sym (cond_false (well_formed s t) _ _ h)
 
@@ -90,14 +88,14 @@ module _ (s : Shape) (t : Tables) (well : well_formed s t ≡ true) where
 
   -- AN ACCESS
   module _ (a : Access) where
-    pub access_refused : (r : Refusal) → place_of a ≡ decoded.Refused r
-        → record { answered = Refused r; tables = t } ≡ stepped s (access a) t
+    pub access_refused : (r : Refusal) → place_of a ≡ Err r
+        → record { answered = Err r; tables = t } ≡ stepped s (access a) t
     unfolding deed_of answer
     access_refused r e =
-        by_deed (access a) idle (Refused r) t.dist t.redist (ap (accessed a) e)
+        by_deed (access a) idle (Err r) t.dist t.redist (ap (accessed a) e)
         (sym (ap (λ (d : Decoded). access_answer s a d (cell_of s t)) e)) (left Dist) (left Redist)
 
-    module _ (p : Place) (e : place_of a ≡ decoded.At p) where
+    module _ (p : Place) (e : place_of a ≡ Ok p) where
       deed_by : (w : Way) → a.way ≡ w
           → deed_of (access a) ≡ elim w as (λ z. Deed) [ Read ↦ idle | Write ↦ write_to a.side (written_value a) (target_of p) ]
       unfolding deed_of
@@ -107,28 +105,28 @@ module _ (s : Shape) (t : Tables) (well : well_formed s t ≡ true) where
 
       answer_by : (w : Way) → a.way ≡ w
           → answer s (access a) (cell_of s t)
-          ≡ elim w as (λ z. Answer) [ Read ↦ Done (read s a.side (target_of p) (cell_of s t)) | Write ↦ Done 0 ]
+          ≡ elim w as (λ z. Answer) [ Read ↦ Ok (read s a.side (target_of p) (cell_of s t)) | Write ↦ Ok 0 ]
       unfolding answer
       answer_by w h =
           ap (λ (d : Decoded). access_answer s a d (cell_of s t)) e
-          ∙ ap (λ (y : Way). elim y as (λ z. Answer) [ Read ↦ Done (read s a.side (target_of p) (cell_of s t)) | Write ↦ Done 0 ]) h
+          ∙ ap (λ (y : Way). elim y as (λ z. Answer) [ Read ↦ Ok (read s a.side (target_of p) (cell_of s t)) | Write ↦ Ok 0 ]) h
 
       access_read : a.way ≡ Read → (v : ℕ) → v ≡ read s a.side (target_of p) (cell_of s t)
-          → record { answered = Done v; tables = t } ≡ stepped s (access a) t
+          → record { answered = Ok v; tables = t } ≡ stepped s (access a) t
       access_read h v r =
-          by_deed (access a) idle (Done v) t.dist t.redist (deed_by Read h) (ap Done r ∙ sym (answer_by Read h)) (left Dist)
+          by_deed (access a) idle (Ok v) t.dist t.redist (deed_by Read h) (ap Ok r ∙ sym (answer_by Read h)) (left Dist)
           (left Redist)
 
       abbrev written : Deed
       written = write_to a.side (written_value a) (target_of p)
 
       access_written : a.way ≡ Write → (dist redist : List ℕ) → dist ≡ after s written t Dist → redist ≡ after s written t Redist
-          → record { answered = Done 0; tables = lent dist redist t.dist_presence t.redist_presence } ≡ stepped s (access a) t
+          → record { answered = Ok 0; tables = lent dist redist t.dist_presence t.redist_presence } ≡ stepped s (access a) t
       access_written h dist redist k l =
-          by_deed (access a) written (Done 0) dist redist (deed_by Write h) (sym (answer_by Write h)) k l
+          by_deed (access a) written (Ok 0) dist redist (deed_by Write h) (sym (answer_by Write h)) k l
 
   -- an access at a place, from what the engine promises of its target x
-  module _ (a : Access) (p : Place) (e : place_of a ≡ decoded.At p) (x : Target) (aim : x ≡ target_of p) (ps : List ℕ)
+  module _ (a : Access) (p : Place) (e : place_of a ≡ Ok p) (x : Target) (aim : x ≡ target_of p) (ps : List ℕ)
       (words : ps ≡ presence_of a.frame t) where
     here : ps ≡ presence_of (frame_at (target_of p)) t
     here = words ∙ ap (λ (f : Frame). presence_of f t) (sym (target_frame s t well a p e))
@@ -221,7 +219,7 @@ module _ (s : Shape) (t : Tables) (well : well_formed s t ≡ true) where
 
   -- RESET
   pub all_cleared : (dist redist : List ℕ) → dist ≡ map_from 0 zeroed t.dist → redist ≡ map_from 0 zeroed t.redist
-      → record { answered = Done 0; tables = lent dist redist t.dist_presence t.redist_presence } ≡ stepped s reset t
+      → record { answered = Ok 0; tables = lent dist redist t.dist_presence t.redist_presence } ≡ stepped s reset t
   unfolding deed_of answer
   all_cleared dist redist h k =
-      by_deed reset clear (Done 0) dist redist refl refl (h ∙ reset_meant s t Dist) (k ∙ reset_meant s t Redist)
+      by_deed reset clear (Ok 0) dist redist refl refl (h ∙ reset_meant s t Dist) (k ∙ reset_meant s t Redist)

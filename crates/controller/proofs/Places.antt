@@ -2,6 +2,7 @@
 --   target_room       the tables, and the presence words of the target's frame
 --   target_numbered   the SGIs among its interrupts
 --   frame_bank        the bank of an event
+use Rattle.std.specs.Prelude.{Ok}
 use mathlib.Core.Path.{◌≡◌, sym, ap, subst, ◌∙◌}
 use mathlib.Core.Bool.{true}
 use Rattle.types.specs.declared.Frame.{Frame}
@@ -11,7 +12,6 @@ use Rattle.types.specs.declared.Access.{Access}
 use Rattle.types.specs.declared.Place.{Place}
 use Rattle.types.specs.declared.Target.{Target}
 use Rattle.types.specs.declared.Target.TheVariants.{Digits, Typer, Message}
-use Rattle.types.specs.declared.Decoded.TheVariants.{At}
 use Rattle.meaning.specs.Layout.{Tables, records_of, presence_of, presence_words, well_formed}
 use Rattle.meaning.specs.Registers.{place_of, target_of}
 use Rattle.meaning.proofs.After.{well_shape, well_lengths, records_length, presence_length}
@@ -44,7 +44,7 @@ module _ (s : Shape) (t : Tables) (well : well_formed s t ≡ true) where
         words_lent = presence_length t (well_lengths s t well) f;
       }
 
-  module _ (a : Access) (p : Place) (e : place_of a ≡ At p) where
+  module _ (a : Access) (p : Place) (e : place_of a ≡ Ok p) where
     pub target_frame : frame_at (target_of p) ≡ a.frame
     target_frame = frame_of_target a.frame (target_of p) (placed_aimed a p e)
 

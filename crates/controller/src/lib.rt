@@ -8,10 +8,8 @@
 //   redist_presence  3 presence words                           lent for reading
 #![tactic(auto)]
 
-ghost use Rattle.std.specs.Prelude.{◌≡◌};
+ghost use Rattle.std.specs.Prelude.{◌≡◌, Err};
 ghost use Rattle.types.specs.declared.Refusal.{Refusal as Why};
-ghost use Rattle.types.specs.declared.Decoded.TheVariants as decoded;
-ghost use Rattle.types.specs.declared.Answer.TheVariants as answer;
 ghost use Rattle.meaning.specs.Interrupt.{frame_of};
 ghost use Rattle.meaning.specs.Layout.{lent};
 ghost use Rattle.meaning.specs.Rule as step;
@@ -26,11 +24,11 @@ use types::{Access, Answer, Decoded, Event, Frame, Refusal, Shape};
 
 // The refusal of an access that was decoded to none.
 fn refused(found: Decoded) -> Answer
-    ensures { (r : Why) → found ≡ decoded.Refused r → result ≡ answer.Refused r }
+    ensures { (r : Why) → found ≡ Err r → result ≡ Err r }
 {
     match found {
-        Decoded::At(_) => Answer::Refused(Refusal::Unlisted),
-        Decoded::Refused(r) => Answer::Refused(r),
+        Ok(_) => Err(Refusal::Unlisted),
+        Err(r) => Err(r),
     }
 }
 
@@ -68,10 +66,10 @@ pub fn access(
         dist_presence.len(),
         redist_presence.len(),
     ) {
-        return Answer::Refused(Refusal::Shape);
+        return Err(Refusal::Shape);
     }
     let found = place_of(request);
-    let Decoded::At(place) = found else {
+    let Ok(place) = found else {
         return refused(found);
     };
     let target = target_of(place);
@@ -106,7 +104,7 @@ pub fn event(
         dist_presence.len(),
         redist_presence.len(),
     ) {
-        return Answer::Refused(Refusal::Shape);
+        return Err(Refusal::Shape);
     }
     let frame = frame_of(intid);
     match frame {
@@ -137,9 +135,9 @@ pub fn reset(
         dist_presence.len(),
         redist_presence.len(),
     ) {
-        return Answer::Refused(Refusal::Shape);
+        return Err(Refusal::Shape);
     }
     clear(dist);
     clear(redist);
-    Answer::Done(0)
+    Ok(0)
 }

@@ -2,6 +2,7 @@
 --   message_meant    the Distributor's bank after a message
 --   event_meant      the bank after an event on one of its interrupts, and the answer
 --   reset_meant      a bank of zeros
+use Rattle.std.specs.Prelude.{Err}
 use mathlib.Core.Path.{◌≡◌, refl, sym, ap, ap₂, ◌∙◌}
 use mathlib.Core.Bool.{Bool, true, false, cond, ◌&&◌}
 use mathlib.Core.List.{List}
@@ -19,7 +20,6 @@ use Rattle.types.specs.declared.Shape.{Shape}
 use Rattle.types.specs.declared.Message.{Message}
 use Rattle.types.specs.declared.Event.{Event}
 use Rattle.types.specs.declared.Refusal.TheVariants as refusal
-use Rattle.types.specs.declared.Answer.TheVariants.{Refused}
 use Rattle.meaning.specs.Interrupt.{Interrupt, shared, own, same, interrupt, named}
 use Rattle.meaning.specs.Cell.{Cell, decode, encode}
 use Rattle.meaning.specs.Layout.{Tables, records_of, lengths_fit, interrupt_at, cell_of}
@@ -70,9 +70,9 @@ module _ (s : Shape) (side : Side) (g : Message) (v : ℕ) where
       by false h = sym (unaimed_bank s t fit Dist (send side g v) (λ k. none_named h (interrupt_at Dist k)))
 
 -- AN EVENT on an interrupt of the bank f
-missing_refused : (s : Shape) (e : Event) (i : Interrupt) (c : Cell) → c.implemented ≡ false → event_answer s e i c ≡ Refused refusal.Intid
+missing_refused : (s : Shape) (e : Event) (i : Interrupt) (c : Cell) → c.implemented ≡ false → event_answer s e i c ≡ Err refusal.Intid
 unfolding event_answer
-missing_refused s e i c h = ap (λ (b : Bool). cond (b && sees_by e c) (ready s e i c) (Refused refusal.Intid)) h
+missing_refused s e i c h = ap (λ (b : Bool). cond (b && sees_by e c) (ready s e i c) (Err refusal.Intid)) h
 
 module _ (s : Shape) (t : Tables) (fit : lengths_fit t ≡ true) (f : Frame) (m : ℕ) (e : Event) (here : named m ≡ interrupt f m) (p : Span)
     (sp : Spanned s t f m 1 p) where

@@ -3,6 +3,7 @@
 --   read_digits, read_typer, read_message                 what a read shows
 --   wrote_dist, wrote_redist, wrote_nothing, wrote_message    both tables after a write
 --   served_read, served_write                            an access
+use Rattle.std.specs.Prelude.{Ok}
 use mathlib.Core.Path.{◌≡◌, refl, sym, ap, subst, ◌∙◌}
 use mathlib.Core.Bool.{Bool, true, false}
 use mathlib.Core.List.{List, []}
@@ -15,7 +16,6 @@ use Rattle.types.specs.declared.Side.{Side}
 use Rattle.types.specs.declared.Shape.{Shape}
 use Rattle.types.specs.declared.Way.TheVariants.{Read, Write}
 use Rattle.types.specs.declared.Access.{Access}
-use Rattle.types.specs.declared.Answer.TheVariants.{Done}
 use Rattle.types.specs.declared.Message as message
 use Rattle.types.specs.declared.Window.{Window}
 use Rattle.types.specs.declared.Target.{Target}
@@ -119,12 +119,12 @@ apart : Read ≡ Write → ⊥
 apart e = let z : ◌≡◌ {A = Bool} true false = cc in clash refl z
 
 module _ (s : Shape) (a : Access) (x : Target) (ps d r : List ℕ) (at : ℕ → Interrupt) (i : Interrupt) where
-  pub served_read : a.way ≡ Read → (v : ℕ) → v ≡ read_at s at a.side x ps d r → Served s a x ps d r (Done v) d r at i
+  pub served_read : a.way ≡ Read → (v : ℕ) → v ≡ read_at s at a.side x ps d r → Served s a x ps d r (Ok v) d r at i
   served_read w v h =
-      record { reading = λ e. (ap Done h, (refl, refl)); writing = λ e. absurd (apart (sym w ∙ e)) }
+      record { reading = λ e. (ap Ok h, (refl, refl)); writing = λ e. absurd (apart (sym w ∙ e)) }
 
   pub served_write : a.way ≡ Write → (v : ℕ) → v ≡ written_value a → (d' r' : List ℕ) → Written s a.side x v ps d r d' r' at i
-      → Served s a x ps d r (Done 0) d' r' at i
+      → Served s a x ps d r (Ok 0) d' r' at i
   served_write w v value d' r' h =
       record {
         reading = λ e. absurd (apart (sym e ∙ w));

@@ -3,6 +3,7 @@
 --   fitting, fewer       the loops have digits for its part
 --   at_slot, at_none     what is done at its first slot, if it has one
 --   happened_slot, happened_none, refused_same, done_set, sent_off, sent_on    an event and a message there
+use Rattle.std.specs.Prelude.{Err}
 use mathlib.Core.Path.{◌≡◌, sym, ap, subst, ◌∙◌}
 use mathlib.Core.Bool.{Bool, true, false}
 use mathlib.Core.List.{List}
@@ -20,8 +21,7 @@ use Rattle.types.specs.declared.Message.{Message}
 use Rattle.types.specs.declared.Event.{Event}
 use Rattle.types.specs.declared.Window.{Window}
 use Rattle.types.specs.declared.Refusal.TheVariants as refusal
-use Rattle.types.specs.declared.Answer.{Answer}
-use Rattle.types.specs.declared.Answer.TheVariants.{Refused}
+use Rattle.meaning.specs.Answers.{Answer}
 use Rattle.meaning.specs.Interrupt.{Interrupt}
 use Rattle.meaning.specs.Cell.{Cell, decode, encode}
 use Rattle.meaning.specs.Registers.{bits_of}
@@ -75,7 +75,7 @@ module _ (s : Shape) (e : Event) (i : Interrupt) where
   unfolding answer_in
   answer_slot p xs l = sym (cond_true (ltb p.start p.end) _ _ (lt-ltb p.start p.end l))
 
-  answer_none : (p : Span) (xs : List ℕ) → p.end ≤ p.start → Refused refusal.Intid ≡ answer_in s e i p xs
+  answer_none : (p : Span) (xs : List ℕ) → p.end ≤ p.start → Err refusal.Intid ≡ answer_in s e i p xs
   unfolding answer_in
   answer_none p xs l = sym (cond_false (ltb p.start p.end) _ _ (le-ltb p.start p.end l))
 
@@ -86,9 +86,9 @@ module _ (s : Shape) (e : Event) (i : Interrupt) where
       subst (λ (o : Span). Happened s e i o xs a ys) z
       (record { answered = h ∙ answer_slot p xs l; records = k ∙ at_slot (eventful s e i) p xs l })
 
-  pub happened_none : (p q : Span) (xs : List ℕ) → p ≡ q → p.end ≤ p.start → Happened s e i q xs (Refused refusal.Intid) xs
+  pub happened_none : (p q : Span) (xs : List ℕ) → p ≡ q → p.end ≤ p.start → Happened s e i q xs (Err refusal.Intid) xs
   happened_none p q xs z l =
-      subst (λ (o : Span). Happened s e i o xs (Refused refusal.Intid) xs) z
+      subst (λ (o : Span). Happened s e i o xs (Err refusal.Intid) xs) z
       (record { answered = answer_none p xs l; records = at_none (eventful s e i) p xs l })
 
   pub refused_same : (b : Bool) (k : ℕ) (xs : List ℕ) → is_done (event_answer s e i (decode b (get_or xs k 0))) ≡ false

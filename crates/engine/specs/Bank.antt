@@ -1,5 +1,5 @@
 -- What is done in a bank, slot by slot: the bank's own terms, in which no interrupt has a name.
-use Rattle.std.specs.Prelude.{◌≡◌, true, cond, List, ◌++◌, ℕ, ◌-◌, ◌%◌, eqb, ltb, length, get_or, take, drop, set}
+use Rattle.std.specs.Prelude.{◌≡◌, true, cond, List, ◌++◌, ℕ, ◌-◌, ◌%◌, eqb, ltb, length, get_or, take, drop, set, Err}
 use Rattle.types.specs.declared.Frame.{Frame}
 use Rattle.types.specs.declared.Side.{Side}
 use Rattle.types.specs.declared.Shape.{Shape}
@@ -7,8 +7,7 @@ use Rattle.types.specs.declared.Message.{Message}
 use Rattle.types.specs.declared.Event.{Event}
 use Rattle.types.specs.declared.Window.{Window}
 use Rattle.types.specs.declared.Refusal.TheVariants as refusal
-use Rattle.types.specs.declared.Answer.{Answer}
-use Rattle.types.specs.declared.Answer.TheVariants.{Refused}
+use Rattle.meaning.specs.Answers.{Answer}
 use Rattle.meaning.specs.Interrupt.{Interrupt}
 use Rattle.meaning.specs.Cell.{Cell, decode, encode}
 use Rattle.meaning.specs.Layout.{slots, presence_words, shape_fits}
@@ -61,7 +60,7 @@ unfoldable pub eventful : Shape → Event → Interrupt → Cell → Cell
 eventful s e i c = cond (is_done (event_answer s e i c)) (happened s e i c) c
 
 unfoldable pub answer_in : Shape → Event → Interrupt → Span → List ℕ → Answer
-answer_in s e i p xs = cond (ltb p.start p.end) (event_answer s e i (cell_in p xs)) (Refused refusal.Intid)
+answer_in s e i p xs = cond (ltb p.start p.end) (event_answer s e i (cell_in p xs)) (Err refusal.Intid)
 
 pub record Happened (s : Shape) (e : Event) (i : Interrupt) (p : Span) (xs : List ℕ) (a : Answer) (ys : List ℕ) : Type 0 where
   pub answered : a ≡ answer_in s e i p xs

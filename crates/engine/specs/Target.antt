@@ -1,15 +1,14 @@
 -- A decoded access in the banks: what a read of its target shows, and the records of both frames after a write to it.
-use Rattle.std.specs.Prelude.{◌≡◌, true, List, [], ℕ, ◌%◌, length}
+use Rattle.std.specs.Prelude.{◌≡◌, true, List, [], ℕ, ◌%◌, length, Ok}
 use Rattle.types.specs.declared.Frame.{Frame}
 use Rattle.types.specs.declared.Frame.TheVariants.{Dist, Redist}
 use Rattle.types.specs.declared.Side.{Side}
 use Rattle.types.specs.declared.Shape.{Shape}
 use Rattle.types.specs.declared.Way.TheVariants.{Read, Write}
 use Rattle.types.specs.declared.Access.{Access}
-use Rattle.types.specs.declared.Answer.{Answer}
-use Rattle.types.specs.declared.Answer.TheVariants.{Done}
 use Rattle.types.specs.declared.Target.{Target}
 use Rattle.types.specs.declared.Target.TheVariants.{Digits, Typer, Message}
+use Rattle.meaning.specs.Answers.{Answer}
 use Rattle.meaning.specs.Interrupt.{Interrupt}
 use Rattle.meaning.specs.Layout.{lent, records_of, slots, presence_words, shape_fits}
 use Rattle.meaning.specs.Registers.{written_value}
@@ -71,5 +70,5 @@ pub record Written (s : Shape) (side : Side) (x : Target) (v : ℕ) (ps d r d' r
 -- an access: a read shows and leaves every record, a write leaves what is written
 pub record Served (s : Shape) (a : Access) (x : Target) (ps d r : List ℕ) (y : Answer) (d' r' : List ℕ) (at : ℕ → Interrupt)
     (i : Interrupt) : Type 0 where
-  pub reading : a.way ≡ Read → (y ≡ Done (read_at s at a.side x ps d r)) × ((d' ≡ d) × (r' ≡ r))
-  pub writing : a.way ≡ Write → (y ≡ Done 0) × Written s a.side x (written_value a) ps d r d' r' at i
+  pub reading : a.way ≡ Read → (y ≡ Ok (read_at s at a.side x ps d r)) × ((d' ≡ d) × (r' ≡ r))
+  pub writing : a.way ≡ Write → (y ≡ Ok 0) × Written s a.side x (written_value a) ps d r d' r' at i

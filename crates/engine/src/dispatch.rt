@@ -85,11 +85,11 @@ pub fn serve(
     let side = request.side;
     let way = request.way;
     match way {
-        Way::Read => Answer::Done(read(dist, redist, presence, shape, side, target)),
+        Way::Read => Ok(read(dist, redist, presence, shape, side, target)),
         Way::Write => {
             let value = value_of(request);
             write(dist, redist, presence, shape, side, target, value);
-            Answer::Done(0)
+            Ok(0)
         }
     }
 }

@@ -21,7 +21,7 @@ fn happen_at(records: &mut [u8], at: usize, implemented: bool, soft: bool, event
 {
     let r = records[at];
     let answer = answer_to(event, implemented, soft, r);
-    let Answer::Done(_) = answer else {
+    let Ok(_) = answer else {
         return answer;
     };
     records[at] = happened(event, soft, r);
@@ -47,5 +47,5 @@ pub fn happen(
     if start < span.end {
         return happen_at(records, start, implemented, m < 16, event);
     }
-    Answer::Refused(Refusal::Intid)
+    Err(Refusal::Intid)
 }

@@ -1,5 +1,6 @@
 -- Document 01's "Effects", sentence by sentence, as laws of the rule, and what document 02's CR 2 says of the two grouping bits. Where
 -- Rule.antt were wrong, or `non_secure` of Cell.antt, one of these would fail.
+use Rattle.std.specs.Prelude.{Ok, Err}
 use mathlib.Core.Path.{◌≡◌, refl, ap, ap₂, subst⁻¹, ◌∙◌}
 use mathlib.Core.Bool.{Bool, true, false, cond, not, ◌&&◌, ◌||◌, beq}
 use Prim.Native.Nat.{ℕ, ◌*◌, ◌-◌, ◌/◌, ◌%◌, ◌^◌, ◌≤◌}
@@ -25,7 +26,6 @@ use Rattle.types.specs.declared.Event.{Event}
 use Rattle.types.specs.declared.Event.TheVariants as event
 use Rattle.types.specs.declared.Window.{Window}
 use Rattle.types.specs.declared.Refusal.TheVariants as refusal
-use Rattle.types.specs.declared.Answer.TheVariants.{Done, Refused}
 use Rattle.meaning.specs.Interrupt.{Interrupt, sgi}
 use Rattle.meaning.specs.Cell.{Cell, get, put, encode, non_secure, edge_of, pending}
 use Rattle.meaning.specs.Answers.{status_of}
@@ -263,17 +263,17 @@ module _ (s : Shape) (i : Interrupt) (c : Cell) where
   -- An event is refused 7 by a missing interrupt, 8 if it is a wire's on an SGI, 9 if the state does not allow it.
   pub missing_7 : (e : Event) → c.implemented ≡ false → status_of (event_answer s e i c) ≡ 7
   unfolding event_answer
-  missing_7 e h = ap (λ (b : Bool). status_of (cond (b && sees_by e c) (ready s e i c) (Refused refusal.Intid))) h
+  missing_7 e h = ap (λ (b : Bool). status_of (cond (b && sees_by e c) (ready s e i c) (Err refusal.Intid))) h
 
   pub sgi_8 : (level : Bool) → c.implemented ≡ true → sgi i ≡ true → status_of (event_answer s (event.Wire level) i c) ≡ 8
   unfolding event_answer
   sgi_8 level h k =
-      ap₂ (λ (a b : Bool). status_of (cond (a && true) (cond b (Refused refusal.SgiWire) (Done 0)) (Refused refusal.Intid))) h k
+      ap₂ (λ (a b : Bool). status_of (cond (a && true) (cond b (Err refusal.SgiWire) (Ok 0)) (Err refusal.Intid))) h k
 
   pub inactive_9 : c.implemented ≡ true → c.active ≡ false → status_of (event_answer s (event.Deactivate Secure) i c) ≡ 9
   unfolding event_answer sees
   inactive_9 h k =
-      ap₂ (λ (a b : Bool). status_of (cond (a && true) (cond b (Done 0) (Refused refusal.State)) (Refused refusal.Intid))) h k
+      ap₂ (λ (a b : Bool). status_of (cond (a && true) (cond b (Ok 0) (Err refusal.State)) (Err refusal.Intid))) h k
 
   -- Reset: every record becomes 0.
   pub reset_zero : encode (act s reset i c) ≡ 0

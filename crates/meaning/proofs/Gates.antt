@@ -5,6 +5,7 @@
 --   secure_left      and a Non-secure deed leaves what the Non-secure side does not own,
 --   secure_unseen    sees 0 of it
 --   secure_refused   and is refused 7 by it
+use Rattle.std.specs.Prelude.{Err}
 use mathlib.Core.Path.{◌≡◌, refl, ◌∙◌, ap}
 use mathlib.Core.Bool.{Bool, true, false, cond, not, ◌&&◌}
 use Rattle.lists.proofs.Bools.{and_left, and_right, both, clash}
@@ -18,7 +19,6 @@ use Rattle.types.specs.declared.Message.{Message}
 use Rattle.types.specs.declared.Event.{Event}
 use Rattle.types.specs.declared.Event.TheVariants as event
 use Rattle.types.specs.declared.Refusal.TheVariants as refusal
-use Rattle.types.specs.declared.Answer.TheVariants.{Refused}
 use Rattle.meaning.specs.Interrupt.{Interrupt}
 use Rattle.meaning.specs.Cell.{Cell, non_secure, owned}
 use Rattle.meaning.specs.Registers.{kind_of}
@@ -54,7 +54,7 @@ module _ (s : Shape) (i : Interrupt) (c : Cell) where
   unfolding event_answer
   event_open e h = by (c.implemented && sees_by e c) h
     where
-      by : (y : Bool) → is_done (cond y (ready s e i c) (Refused refusal.Intid)) ≡ true → y ≡ true
+      by : (y : Bool) → is_done (cond y (ready s e i c) (Err refusal.Intid)) ≡ true → y ≡ true
       by true h = refl
       by false h = absurd (clash h refl)
 
@@ -117,9 +117,9 @@ module _ (s : Shape) (i : Interrupt) (c : Cell) where
   pub secure_unseen : (k : Kind) → owned c ≡ false → visible s NonSecure k i c ≡ 0
   secure_unseen k h = unseen NonSecure k (closed h)
 
-  pub secure_refused : (e : Event) → side_by e ≡ NonSecure → owned c ≡ false → event_answer s e i c ≡ Refused refusal.Intid
+  pub secure_refused : (e : Event) → side_by e ≡ NonSecure → owned c ≡ false → event_answer s e i c ≡ Err refusal.Intid
   unfolding event_answer owned sees
-  secure_refused e n h = cond_false (c.implemented && sees_by e c) (ready s e i c) (Refused refusal.Intid) (by e n)
+  secure_refused e n h = cond_false (c.implemented && sees_by e c) (ready s e i c) (Err refusal.Intid) (by e n)
     where
       by : (e : Event) → side_by e ≡ NonSecure → (c.implemented && sees_by e c) ≡ false
       by (event.Wire level) n = let z : ◌≡◌ {A = Bool} true false = cc in absurd (clash refl z)

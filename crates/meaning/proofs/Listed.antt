@@ -4,6 +4,7 @@
 --   res0_reads, res0_left    the Distributor's low words read 0 and ignore writes, for both sides
 --   columns           kinds, digits, counts and offsets of the rows hang together as Arm's map has them
 --   visible_small     a digit that is read fits its family's bits
+use Rattle.std.specs.Prelude.{Ok, Err}
 use mathlib.Core.Path.{◌≡◌, refl, ap, ◌∙◌}
 use mathlib.Core.Bool.{Bool, true, false, cond, ◌||◌}
 use Prim.Native.Nat.{ℕ, ◌+◌, ◌*◌, ◌-◌, ◌%◌, ◌^◌, ◌<◌}
@@ -24,7 +25,6 @@ use Rattle.types.specs.declared.Place.{Place}
 use Rattle.types.specs.declared.Place.TheVariants as place
 use Rattle.types.specs.declared.Refusal.{Refusal}
 use Rattle.types.specs.declared.Refusal.TheVariants as refusal
-use Rattle.types.specs.declared.Decoded.TheVariants.{At, Refused}
 use Rattle.meaning.specs.Interrupt.{Interrupt, intid, in_frame, between}
 use Rattle.meaning.specs.Cell.{Cell}
 use Rattle.meaning.specs.Registers.{row_of, kind_of, bits_of, per_word, low, listed, wide_enough, if_wide, place_of, target_of, names}
@@ -41,19 +41,19 @@ known w = eqb w 2 || eqb w 4
 
 module _ (a : Access) where
   -- 2, whatever the offset
-  pub width_refused : known a.width ≡ false → place_of a ≡ Refused refusal.Width
+  pub width_refused : known a.width ≡ false → place_of a ≡ Err refusal.Width
   unfolding place_of
   width_refused h = rw h refl
 
   module _ (w : known a.width ≡ true) where
     -- 3, also above 65535
-    pub alignment_refused : eqb (a.offset % a.width) 0 ≡ false → place_of a ≡ Refused refusal.Alignment
+    pub alignment_refused : eqb (a.offset % a.width) 0 ≡ false → place_of a ≡ Err refusal.Alignment
     unfolding place_of
     alignment_refused h = rw (w, h) refl
 
     module _ (m : eqb (a.offset % a.width) 0 ≡ true) where
       -- 4, whatever stands at the offset's low bits
-      pub offset_refused : 65535 < a.offset → place_of a ≡ Refused refusal.Offset
+      pub offset_refused : 65535 < a.offset → place_of a ≡ Err refusal.Offset
       unfolding place_of
       offset_refused h = rw (w, m, lt-ltb 65535 a.offset h) refl
 
@@ -64,14 +64,14 @@ module _ (a : Access) where
         placed = rw (w, m, o) refl
 
         -- 5, whatever the width
-        pub unlisted_refused : (r : Refusal) → listed a.frame (a.offset - a.offset % 4) ≡ Refused r → place_of a ≡ Refused r
+        pub unlisted_refused : (r : Refusal) → listed a.frame (a.offset - a.offset % 4) ≡ Err r → place_of a ≡ Err r
         unlisted_refused r h = placed ∙ ap (if_wide a.width (a.offset % 4)) h
 
         -- 6
-        pub narrow_refused : (p : Place) → listed a.frame (a.offset - a.offset % 4) ≡ At p
-            → wide_enough a.width (a.offset % 4) p ≡ false → place_of a ≡ Refused refusal.Narrow
+        pub narrow_refused : (p : Place) → listed a.frame (a.offset - a.offset % 4) ≡ Ok p
+            → wide_enough a.width (a.offset % 4) p ≡ false → place_of a ≡ Err refusal.Narrow
         narrow_refused p h n =
-            placed ∙ (ap (if_wide a.width (a.offset % 4)) h ∙ ap (λ (b : Bool). cond b (At p) (Refused refusal.Narrow)) n)
+            placed ∙ (ap (if_wide a.width (a.offset % 4)) h ∙ ap (λ (b : Bool). cond b (Ok p) (Err refusal.Narrow)) n)
 
 -- width 2 beside the offset of a word is too narrow for every register, and at the offset for every one but a message register
 pub half_narrow : (p : Place) → wide_enough 2 2 p ≡ false

@@ -8,11 +8,10 @@ use Rattle.types.specs.declared.Side.TheVariants.{Secure, NonSecure}
 use Rattle.types.specs.declared.Way.TheVariants.{Read, Write}
 use Rattle.types.specs.declared.Shape.{Shape}
 use Rattle.types.specs.declared.Event.TheVariants.{Wire, Activate}
-use Rattle.types.specs.declared.Answer.{Answer}
 use Rattle.meaning.specs.Interrupt.{Interrupt, same, named}
 use Rattle.meaning.specs.Cell.{decode}
 use Rattle.meaning.specs.Layout.{in_range}
-use Rattle.meaning.specs.Answers.{status_of, value_of}
+use Rattle.meaning.specs.Answers.{Answer, status_of, value_of}
 use Rattle.meaning.specs.Rule.{Step, access, happens, act}
 use Rattle.meaning.specs.Step.{Cells, answer}
 

@@ -1,5 +1,5 @@
 -- The listed registers and where an access goes: document 01's "Listed registers" and refusals 2 to 6.
-use Rattle.std.specs.Prelude.{Bool, true, false, cond, not, ◌&&◌, ◌||◌, List, [], ◌∷◌, ℕ, ◌+◌, ◌*◌, ◌-◌, ◌/◌, ◌%◌, eqb, ltb}
+use Rattle.std.specs.Prelude.{Bool, true, false, cond, not, ◌&&◌, ◌||◌, List, [], ◌∷◌, ℕ, ◌+◌, ◌*◌, ◌-◌, ◌/◌, ◌%◌, eqb, ltb, Ok, Err}
 use Rattle.types.specs.declared.Frame.{Frame}
 use Rattle.types.specs.declared.Frame.TheVariants.{Dist, Redist}
 use Rattle.types.specs.declared.Access.{Access}
@@ -16,11 +16,10 @@ use Rattle.types.specs.declared.Message.TheVariants.{SetspiNsr, ClrspiNsr, Setsp
 use Rattle.types.specs.declared.Place.{Place}
 use Rattle.types.specs.declared.Place.TheVariants as place
 use Rattle.types.specs.declared.Refusal.TheVariants as refusal
-use Rattle.types.specs.declared.Decoded.{Decoded}
-use Rattle.types.specs.declared.Decoded.TheVariants.{At, Refused}
 use Rattle.types.specs.declared.Window.{Window}
 use Rattle.types.specs.declared.Target.{Target}
 use Rattle.types.specs.declared.Target.TheVariants as target
+use Rattle.meaning.specs.Answers.{Decoded}
 use Rattle.meaning.specs.Interrupt.{Interrupt, intid, in_frame, between}
 
 -- A row: what a digit is and how many bits it has; offset and number of the words in the Distributor frame, of the extended ones
@@ -66,11 +65,11 @@ message_offset ClrspiSr = 0x058
 unfoldable pub in_column : (Family → ℕ) → (Family → ℕ) → (Family → ℕ → Place) → ℕ → List Family → Decoded → Decoded
 in_column from many at o [] other = other
 in_column from many at o (f ∷ fs) other =
-    cond (between (from f) (from f + 4 * many f) o) (At (at f ((o - from f) / 4))) (in_column from many at o fs other)
+    cond (between (from f) (from f + 4 * many f) o) (Ok (at f ((o - from f) / 4))) (in_column from many at o fs other)
 
 unfoldable pub in_messages : ℕ → List Message → Decoded → Decoded
 in_messages o [] other = other
-in_messages o (g ∷ gs) other = cond (eqb o (message_offset g)) (At (place.Message g)) (in_messages o gs other)
+in_messages o (g ∷ gs) other = cond (eqb o (message_offset g)) (Ok (place.Message g)) (in_messages o gs other)
 
 -- a word that begins with an INTID below 32: word 0, and of ICFGR word 1
 abbrev pub low : ℕ → Bool
@@ -82,11 +81,11 @@ redist_place f n = cond (low (per_word f * n)) (place.Word Redist f n) (place.Ex
 
 -- the place of the word at an offset that is a multiple of 4
 unfoldable pub listed : Frame → ℕ → Decoded
-listed Redist o = in_column (λ f. (row_of f).base) (λ f. (row_of f).redist) redist_place o families (Refused refusal.Unlisted)
+listed Redist o = in_column (λ f. (row_of f).base) (λ f. (row_of f).redist) redist_place o families (Err refusal.Unlisted)
 listed Dist o =
     in_column (λ f. (row_of f).base) (λ f. (row_of f).words) (place.Word Dist) o families
     (in_column (λ f. (row_of f).extended) (λ f. (row_of f).extras) (place.Extended Dist) o families
-    (cond (eqb o 0x004) (At place.Typer) (in_messages o messages (Refused refusal.Unlisted))))
+    (cond (eqb o 0x004) (Ok place.Typer) (in_messages o messages (Err refusal.Unlisted))))
 
 -- width 2 is for the message registers alone, at their own offset: x is the offset's distance from its aligned word
 abbrev pub wide_enough : ℕ → ℕ → Place → Bool
@@ -96,15 +95,15 @@ wide_enough w x place.Typer = eqb w 4
 wide_enough w x (place.Message g) = eqb x 0
 
 abbrev pub if_wide : ℕ → ℕ → Decoded → Decoded
-if_wide w x (Refused r) = Refused r
-if_wide w x (At p) = cond (wide_enough w x p) (At p) (Refused refusal.Narrow)
+if_wide w x (Err r) = Err r
+if_wide w x (Ok p) = cond (wide_enough w x p) (Ok p) (Err refusal.Narrow)
 
 -- Refusals 2 to 6, the first that applies; otherwise the place.
 unfoldable pub place_of : Access → Decoded
 place_of a =
-    cond (not (eqb a.width 2 || eqb a.width 4)) (Refused refusal.Width)
-    (cond (not (eqb (a.offset % a.width) 0)) (Refused refusal.Alignment)
-    (cond (ltb 65535 a.offset) (Refused refusal.Offset)
+    cond (not (eqb a.width 2 || eqb a.width 4)) (Err refusal.Width)
+    (cond (not (eqb (a.offset % a.width) 0)) (Err refusal.Alignment)
+    (cond (ltb 65535 a.offset) (Err refusal.Offset)
     (if_wide a.width (a.offset % 4) (listed a.frame (a.offset - a.offset % 4)))))
 
 -- With width 2 the upper half of the value is ignored.

@@ -3,7 +3,7 @@
 -- A step is a deed, and a deed is three things: at whom it aims (by the request alone), whether the interrupt's cell admits it
 -- (the gate), and its effect there.
 -- Some functions take a shape, a side, a way or an interrupt that they do not look at: document 02's requests will.
-use Rattle.std.specs.Prelude.{Bool, true, false, cond, not, ◌&&◌, ◌||◌, ℕ, ◌*◌, ◌-◌, ◌%◌, eqb, leb}
+use Rattle.std.specs.Prelude.{Bool, true, false, cond, not, ◌&&◌, ◌||◌, ℕ, ◌*◌, ◌-◌, ◌%◌, eqb, leb, Ok, Err}
 use Rattle.std.specs.Bool.{beq}
 use Rattle.lists.specs.Word.{digit, digit_at}
 use Rattle.types.specs.declared.Bit.{Bit}
@@ -28,10 +28,7 @@ use Rattle.types.specs.declared.Window.{Window}
 use Rattle.types.specs.declared.Target.{Target}
 use Rattle.types.specs.declared.Target.TheVariants as target
 use Rattle.types.specs.declared.Refusal.TheVariants as refusal
-use Rattle.types.specs.declared.Decoded.{Decoded}
-use Rattle.types.specs.declared.Decoded.TheVariants as decoded
-use Rattle.types.specs.declared.Answer.{Answer}
-use Rattle.types.specs.declared.Answer.TheVariants.{Done, Refused}
+use Rattle.meaning.specs.Answers.{Answer, Decoded}
 use Rattle.meaning.specs.Interrupt.{Interrupt, shared, own, intid, same, named, sgi}
 use Rattle.meaning.specs.Cell.{Cell, get, put, decode, non_secure, edge_of, pending}
 use Rattle.meaning.specs.Registers.{kind_of, bits_of, place_of, written_value, target_of, names}
@@ -56,8 +53,8 @@ write_to side v target.Typer = idle
 write_to side v (target.Message g) = send side g v
 
 abbrev pub accessed : Access → Decoded → Deed
-accessed a (decoded.Refused r) = idle
-accessed a (decoded.At p) = elim a.way [ Read ↦ idle | Write ↦ write_to a.side (written_value a) (target_of p) ]
+accessed a (Err r) = idle
+accessed a (Ok p) = elim a.way [ Read ↦ idle | Write ↦ write_to a.side (written_value a) (target_of p) ]
 
 unfoldable pub deed_of : Step → Deed
 deed_of (access a) = accessed a (place_of a)
@@ -162,17 +159,17 @@ sees_by (event.Activate side) c = sees side c
 sees_by (event.Deactivate side) c = sees side c
 
 abbrev pub ready : Shape → Event → Interrupt → Cell → Answer
-ready s (event.Wire level) i c = cond (sgi i) (Refused refusal.SgiWire) (Done 0)
-ready s (event.Activate side) i c = cond (c.enabled && (pending s i c && not c.active)) (Done 0) (Refused refusal.State)
-ready s (event.Deactivate side) i c = cond c.active (Done 0) (Refused refusal.State)
+ready s (event.Wire level) i c = cond (sgi i) (Err refusal.SgiWire) (Ok 0)
+ready s (event.Activate side) i c = cond (c.enabled && (pending s i c && not c.active)) (Ok 0) (Err refusal.State)
+ready s (event.Deactivate side) i c = cond c.active (Ok 0) (Err refusal.State)
 
 -- Events answer 7, 8 or 9, the first that applies; otherwise done.
 unfoldable pub event_answer : Shape → Event → Interrupt → Cell → Answer
-event_answer s e i c = cond (c.implemented && sees_by e c) (ready s e i c) (Refused refusal.Intid)
+event_answer s e i c = cond (c.implemented && sees_by e c) (ready s e i c) (Err refusal.Intid)
 
 abbrev pub is_done : Answer → Bool
-is_done (Done v) = true
-is_done (Refused r) = false
+is_done (Ok v) = true
+is_done (Err r) = false
 
 -- The wire's level is stored; a rise on an edge interrupt sets the latch. Activation sets active and clears the latch; wire and
 -- message level stay. Deactivation clears active.

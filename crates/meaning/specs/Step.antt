@@ -1,5 +1,5 @@
 -- What a step is answered, and the lent tables after it: the whole machine, from the rule of one interrupt.
-use Rattle.std.specs.Prelude.{cond, List, ℕ, ◌+◌, ◌*◌, ◌-◌, ◌^◌, ltb}
+use Rattle.std.specs.Prelude.{cond, List, ℕ, ◌+◌, ◌*◌, ◌-◌, ◌^◌, ltb, Ok, Err}
 use Rattle.lists.specs.Map.{map_from}
 use Rattle.lists.specs.Word.{digit, row}
 use Rattle.types.specs.declared.Frame.{Frame}
@@ -12,10 +12,7 @@ use Rattle.types.specs.declared.Window.{Window}
 use Rattle.types.specs.declared.Target.{Target}
 use Rattle.types.specs.declared.Target.TheVariants as target
 use Rattle.types.specs.declared.Refusal.TheVariants as refusal
-use Rattle.types.specs.declared.Decoded.{Decoded}
-use Rattle.types.specs.declared.Decoded.TheVariants as decoded
-use Rattle.types.specs.declared.Answer.{Answer}
-use Rattle.types.specs.declared.Answer.TheVariants.{Done, Refused}
+use Rattle.meaning.specs.Answers.{Answer, Decoded}
 use Rattle.meaning.specs.Interrupt.{Interrupt, interrupt, named}
 use Rattle.meaning.specs.Cell.{Cell, encode}
 use Rattle.meaning.specs.Layout.{Tables, interrupt_at, cell_of, well_formed}
@@ -45,14 +42,14 @@ read s side target.Typer cells = typer s
 read s side (target.Message g) cells = 0
 
 abbrev pub access_answer : Shape → Access → Decoded → Cells → Answer
-access_answer s a (decoded.Refused r) cells = Refused r
-access_answer s a (decoded.At p) cells = elim a.way [ Read ↦ Done (read s a.side (target_of p) cells) | Write ↦ Done 0 ]
+access_answer s a (Err r) cells = Err r
+access_answer s a (Ok p) cells = elim a.way [ Read ↦ Ok (read s a.side (target_of p) cells) | Write ↦ Ok 0 ]
 
 -- THE ANSWER, where refusal 1 does not apply
 unfoldable pub answer : Shape → Step → Cells → Answer
 answer s (access a) cells = access_answer s a (place_of a) cells
 answer s (happens e m) cells = event_answer s e (named m) (cells (named m))
-answer s reset cells = Done 0
+answer s reset cells = Ok 0
 
 -- a table of numbers after a step: at each slot, the number `of` its interrupt as the step leaves it
 unfoldable pub column : (Interrupt → Cell) → (Cell → ℕ) → Frame → List ℕ → List ℕ
@@ -79,4 +76,4 @@ pub record Outcome : Type 0 where
 unfoldable pub stepped : Shape → Step → Tables → Outcome
 stepped s q t =
     cond (well_formed s t) (record { answered = answer s q (cell_of s t); tables = tables_after s q t })
-    (record { answered = Refused refusal.Shape; tables = t })
+    (record { answered = Err refusal.Shape; tables = t })

@@ -13,7 +13,7 @@ use Rattle.types.specs.declared.Frame.{Frame}
 use Rattle.types.specs.declared.Frame.TheVariants.{Dist, Redist}
 use Rattle.types.specs.declared.Side.{Side}
 use Rattle.types.specs.declared.Shape.{Shape}
-use Rattle.types.specs.declared.Answer.{Answer}
+use Rattle.meaning.specs.Answers.{Answer}
 use Rattle.meaning.specs.Interrupt.{Interrupt, shared, own, intid, between}
 use Rattle.meaning.specs.Cell.{decode, encode}
 use Rattle.meaning.specs.Layout.{Tables, presence_of, presence_words, in_range, Home, slot, home_of, present_at, implemented, cell_of}

@@ -4,6 +4,7 @@
 --   unaimed_kept   a step leaves every record at which it does not aim: of an event, all but its interrupt's
 --   others_kept    so an access leaves every record that its window, or its message, does not name
 --   missing_kept   and every step but a reset leaves those of missing interrupts
+use Rattle.std.specs.Prelude.{Ok}
 use mathlib.Core.Path.{◌≡◌, refl, ◌∙◌}
 use mathlib.Core.Bool.{false}
 use Prim.Native.Nat.{ℕ, ◌<◌}
@@ -12,7 +13,6 @@ use Rattle.types.specs.declared.Frame.{Frame}
 use Rattle.types.specs.declared.Shape.{Shape}
 use Rattle.types.specs.declared.Access.{Access}
 use Rattle.types.specs.declared.Place.{Place}
-use Rattle.types.specs.declared.Decoded.TheVariants.{At}
 use Rattle.types.specs.declared.Target.{Target}
 use Rattle.types.specs.declared.Target.TheVariants as target
 use Rattle.meaning.specs.Interrupt.{Interrupt}
@@ -28,7 +28,7 @@ use Rattle.promises.proofs.Deeds.{by_place, by_access}
 use Rattle.promises.proofs.Refused.{by_shape}
 
 -- an access does not aim at what its place does not name
-unreached : (s : Shape) (a : Access) (p : Place) (i : Interrupt) → place_of a ≡ At p → reached_by s a (target_of p) i ≡ false
+unreached : (s : Shape) (a : Access) (p : Place) (i : Interrupt) → place_of a ≡ Ok p → reached_by s a (target_of p) i ≡ false
     → aims s (deed_of (access a)) i ≡ false
 unfolding aims reached_by
 unreached s a p i e h = by_place (λ (d : Deed). aims s d i ≡ false) a refl p e (λ w. by (target_of p) h)
@@ -67,6 +67,6 @@ module _ (s : Shape) (q : Step) (t : Tables) (r : Frame) (k : ℕ) (inside : k <
   unfolding act
   missing_kept n h = slot_kept (missing_left s here (cell_of s t here) (deed_of q) (clears_none q n) (cell_present s t here ∙ h))
 
-pub others_kept : (s : Shape) (a : Access) (t : Tables) (p : Place) → place_of a ≡ At p → (r : Frame) (k : ℕ) → k < slots r
+pub others_kept : (s : Shape) (a : Access) (t : Tables) (p : Place) → place_of a ≡ Ok p → (r : Frame) (k : ℕ) → k < slots r
     → reached_by s a (target_of p) (interrupt_at r k) ≡ false → Kept s (access a) t r k
 others_kept s a t p e r k l h = unaimed_kept s (access a) t r k l (unreached s a p (interrupt_at r k) e h)

@@ -3,6 +3,7 @@
 --   step_left      a step that is refused leaves every interrupt
 --   by_shape       the tables after a step, by whether refusal 1 applies
 --   refused_kept   and so the four tables, whatever numbers stand in them
+use Rattle.std.specs.Prelude.{Ok, Err}
 use mathlib.Core.Path.{◌≡◌, refl, sym, ap, ◌∙◌, subst}
 use mathlib.Core.Bool.{Bool, true, false, ◌&&◌}
 use Prim.Native.Nat.{ℕ}
@@ -19,9 +20,7 @@ use Rattle.types.specs.declared.Access.{Access}
 use Rattle.types.specs.declared.Place.{Place}
 use Rattle.types.specs.declared.Event.{Event}
 use Rattle.types.specs.declared.Refusal.{Refusal}
-use Rattle.types.specs.declared.Decoded.{Decoded}
-use Rattle.types.specs.declared.Decoded.TheVariants.{At}
-use Rattle.types.specs.declared.Answer.TheVariants.{Done, Refused}
+use Rattle.meaning.specs.Answers.{Decoded}
 use Rattle.meaning.specs.Interrupt.{Interrupt, same, named}
 use Rattle.meaning.specs.Layout.{Tables, records_of, slots, interrupt_at, lengths_fit, well_formed, cell_of}
 use Rattle.meaning.specs.Registers.{place_of, target_of}
@@ -32,22 +31,22 @@ use Rattle.meaning.proofs.Aims.{same_true}
 use Rattle.meaning.proofs.After.{records_length, lengths_kept, record_stays, answer_well, tables_well, well_lengths}
 use Rattle.promises.proofs.Deeds.{by_access, idle_left}
 
-refused_done : {r : Refusal} {v : ℕ} → Refused r ≡ Done v → ⊥
+refused_done : {r : Refusal} {v : ℕ} → Err r ≡ Ok v → ⊥
 refused_done e = let z : ◌≡◌ {A = ℕ} 0 1 = cc in omega arith
 
 -- AN ACCESS with a place is done
-pub placed_done : (s : Shape) (a : Access) (p : Place) (cells : Cells) → place_of a ≡ At p → (v : ℕ) × (answer s (access a) cells ≡ Done v)
+pub placed_done : (s : Shape) (a : Access) (p : Place) (cells : Cells) → place_of a ≡ Ok p → (v : ℕ) × (answer s (access a) cells ≡ Ok v)
 unfolding answer
 placed_done s a p cells e = by a.way (ap (λ (d : Decoded). access_answer s a d cells) e)
   where
-    by : (w : Way) → access_answer s a (place_of a) cells ≡ elim w [ Read ↦ Done (read s a.side (target_of p) cells) | Write ↦ Done 0 ]
-        → (v : ℕ) × (access_answer s a (place_of a) cells ≡ Done v)
+    by : (w : Way) → access_answer s a (place_of a) cells ≡ elim w [ Read ↦ Ok (read s a.side (target_of p) cells) | Write ↦ Ok 0 ]
+        → (v : ℕ) × (access_answer s a (place_of a) cells ≡ Ok v)
     by Read h = (read s a.side (target_of p) cells, h)
     by Write h = (0, h)
 
 -- A REFUSED STEP leaves every interrupt
 event_left : (s : Shape) (e : Event) (m : ℕ) (cells : Cells) (r : Refusal) (i : Interrupt)
-    → event_answer s e (named m) (cells (named m)) ≡ Refused r → performed s (happen e m) i (cells i) ≡ cells i
+    → event_answer s e (named m) (cells (named m)) ≡ Err r → performed s (happen e m) i (cells i) ≡ cells i
 unfolding performed aims admits
 event_left s e m cells r i h =
     cond_shut (same (named m) i && is_done (event_answer s e i (cells i))) _ (cells i)
@@ -56,7 +55,7 @@ event_left s e m cells r i h =
     clash (and_right (same (named m) i) (is_done (event_answer s e i (cells i))) t)
     (ap is_done (ap (λ (j : Interrupt). event_answer s e j (cells j)) (sym here) ∙ h)))
 
-pub step_left : (s : Shape) (q : Step) (cells : Cells) (r : Refusal) (i : Interrupt) → answer s q cells ≡ Refused r
+pub step_left : (s : Shape) (q : Step) (cells : Cells) (r : Refusal) (i : Interrupt) → answer s q cells ≡ Err r
     → act s q i (cells i) ≡ cells i
 unfolding act deed_of answer
 step_left s (access a) cells r i h =
@@ -97,7 +96,7 @@ by_shape s q t P ill well = by (well_formed s t) refl
     by true e = subst P (sym (tables_well s q t e)) (well e)
     by false e = subst P (sym (ap (λ (o : Outcome). o.tables) (cond_false (well_formed s t) _ _ e))) ill
 
-pub refused_kept : (s : Shape) (q : Step) (t : Tables) (r : Refusal) → (stepped s q t).answered ≡ Refused r → (stepped s q t).tables ≡ t
+pub refused_kept : (s : Shape) (q : Step) (t : Tables) (r : Refusal) → (stepped s q t).answered ≡ Err r → (stepped s q t).tables ≡ t
 refused_kept s q t r h =
     by_shape s q t (λ (u : Tables). u ≡ t) refl
     (λ e. tables_left s q t (well_lengths s t e) (λ i. step_left s q (cell_of s t) r i (sym (answer_well s q t e) ∙ h)))

@@ -4,6 +4,7 @@
 --   word_answered_by     a read at a register word that is done answers that word
 --   digit_read           so digit x of its answer is what is visible of the x-th interrupt
 --   missing_reads_zero   which is 0 where that is not implemented
+use Rattle.std.specs.Prelude.{Ok}
 use mathlib.Core.Path.{◌≡◌, refl, sym, ap, ◌∙◌}
 use mathlib.Core.Bool.{Bool, true, false}
 use Prim.Native.Nat.{ℕ, ◌+◌, ◌<◌}
@@ -19,10 +20,7 @@ use Rattle.types.specs.declared.Place.{Place}
 use Rattle.types.specs.declared.Window.{Window}
 use Rattle.types.specs.declared.Target.{Target}
 use Rattle.types.specs.declared.Target.TheVariants as target
-use Rattle.types.specs.declared.Decoded.{Decoded}
-use Rattle.types.specs.declared.Decoded.TheVariants.{At}
-use Rattle.types.specs.declared.Answer.{Answer}
-use Rattle.types.specs.declared.Answer.TheVariants.{Done}
+use Rattle.meaning.specs.Answers.{Answer, Decoded}
 use Rattle.meaning.specs.Interrupt.{Interrupt, interrupt}
 use Rattle.meaning.specs.Layout.{Tables, well_formed, implemented, cell_of}
 use Rattle.meaning.specs.Registers.{kind_of, bits_of, place_of, target_of}
@@ -40,14 +38,14 @@ unfolding word_read
 digit_shown s side w x inside cells = row_digit (bits_of w.family) w.count _ (λ k l. visible_small s side w.family _ _) x inside
 
 -- a read at the place of a register word, and its answer, on any tables
-module _ (s : Shape) (a : Access) (p : Place) (w : Window) (reads : a.way ≡ Read) (at : place_of a ≡ At p)
-    (is : target_of p ≡ target.Digits w) (t : Tables) (v : ℕ) (done : (stepped s (access a) t).answered ≡ Done v) where
-  by_place : answer s (access a) (cell_of s t) ≡ Done (word_read s a.side w (cell_of s t))
+module _ (s : Shape) (a : Access) (p : Place) (w : Window) (reads : a.way ≡ Read) (at : place_of a ≡ Ok p)
+    (is : target_of p ≡ target.Digits w) (t : Tables) (v : ℕ) (done : (stepped s (access a) t).answered ≡ Ok v) where
+  by_place : answer s (access a) (cell_of s t) ≡ Ok (word_read s a.side w (cell_of s t))
   unfolding answer read
   by_place =
       ap (λ (d : Decoded). access_answer s a d (cell_of s t)) at
-      ∙ (ap (λ (x : Way). elim x as (λ z. Answer) [ Read ↦ Done (read s a.side (target_of p) (cell_of s t)) | Write ↦ Done 0 ]) reads
-      ∙ ap (λ (g : Target). Done (read s a.side g (cell_of s t))) is)
+      ∙ (ap (λ (x : Way). elim x as (λ z. Answer) [ Read ↦ Ok (read s a.side (target_of p) (cell_of s t)) | Write ↦ Ok 0 ]) reads
+      ∙ ap (λ (g : Target). Ok (read s a.side g (cell_of s t))) is)
 
   word_answered_by : v ≡ word_read s a.side w (cell_of s t)
   unfolding stepped

@@ -12,9 +12,8 @@ use Rattle.types.specs.declared.Way.{Way}
 use Rattle.types.specs.declared.Way.TheVariants.{Read, Write}
 use Rattle.types.specs.declared.Access.{Access}
 use Rattle.types.specs.declared.Refusal.{Refusal}
-use Rattle.types.specs.declared.Answer.{Answer}
 use Rattle.meaning.specs.Layout.{Tables}
-use Rattle.meaning.specs.Answers.{number, status_of, value_of}
+use Rattle.meaning.specs.Answers.{Answer, number, status_of, value_of}
 use Rattle.meaning.specs.Rule.{Step}
 use Rattle.meaning.specs.Step.{Outcome, stepped}
 

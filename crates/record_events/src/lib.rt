@@ -1,7 +1,7 @@
 // What the events answer of a record and do to it: wire, activate, deactivate. `soft`: the interrupt is an SGI.
 #![tactic(auto)]
 
-ghost use Rattle.std.specs.Prelude.{◌≡◌, Bool, cond};
+ghost use Rattle.std.specs.Prelude.{◌≡◌, Bool, cond, Ok, Err};
 ghost use Rattle.types.specs.declared.Shape.{Shape};
 ghost use Rattle.meaning.specs.Interrupt.{Interrupt, sgi};
 ghost use Rattle.meaning.specs.Cell.{decode, encode};
@@ -22,12 +22,12 @@ fn sees_by(event: Event, r: u8) -> bool
 }
 
 fn done_if(held: bool, why: Refusal) -> Answer
-    ensures { result ≡ cond held (Answer.Done 0) (Answer.Refused why) }
+    ensures { result ≡ cond held (Ok 0) (Err why) }
 {
     if held {
-        Answer::Done(0)
+        Ok(0)
     } else {
-        Answer::Refused(why)
+        Err(why)
     }
 }
 
@@ -52,7 +52,7 @@ pub fn answer_to(event: Event, implemented: bool, soft: bool, r: u8) -> Answer
     if implemented & sees_by(event, r) {
         ready(event, soft, r)
     } else {
-        Answer::Refused(Refusal::Intid)
+        Err(Refusal::Intid)
     }
 }
 

@@ -2,6 +2,7 @@
 --   placed_number   its word's number is below 64
 --   placed_aimed    its window is of the access's frame, and one that a register word can have; all else is the Distributor's
 --   word_digits, extended_digits, origin_base   the code's way to a window is the meaning's
+use Rattle.std.specs.Prelude.{Ok, Err}
 use mathlib.Core.Path.{◌≡◌, refl, sym, subst}
 use mathlib.Core.Bool.{Bool, true, false, cond, not, ◌||◌}
 use mathlib.Core.List.{List, [], ◌∷◌}
@@ -18,11 +19,10 @@ use Rattle.types.specs.declared.Message.{Message}
 use Rattle.types.specs.declared.Place.{Place}
 use Rattle.types.specs.declared.Place.TheVariants as place
 use Rattle.types.specs.declared.Refusal.TheVariants as refusal
-use Rattle.types.specs.declared.Decoded.{Decoded}
-use Rattle.types.specs.declared.Decoded.TheVariants.{At, Refused}
 use Rattle.types.specs.declared.Window.{Window}
 use Rattle.types.specs.declared.Target.{Target}
 use Rattle.types.specs.declared.Target.TheVariants as target
+use Rattle.meaning.specs.Answers.{Decoded}
 use Rattle.meaning.specs.Interrupt.{interrupt, sgi}
 use Rattle.meaning.specs.Registers.{row_of, families, messages, message_offset, in_messages, per_word, low, redist_place}
 use Rattle.meaning.specs.Registers.{listed, wide_enough, if_wide, place_of, target_of}
@@ -58,10 +58,10 @@ Placed r place.Typer = r ≡ Dist
 Placed r (place.Message g) = r ≡ Dist
 
 abbrev Found : Frame → Decoded → Type 0
-Found r (At p) = Placed r p
-Found r (Refused w) = Unit
+Found r (Ok p) = Placed r p
+Found r (Err w) = Unit
 
-in_messages_lem : (o : ℕ) (gs : List Message) → Found Dist (in_messages o gs (Refused refusal.Unlisted))
+in_messages_lem : (o : ℕ) (gs : List Message) → Found Dist (in_messages o gs (Err refusal.Unlisted))
 unfolding in_messages
 in_messages_lem o [] = tt
 in_messages_lem o (g ∷ gs) = chosen (Found Dist) (eqb o (message_offset g)) _ _ (λ t. refl) (λ t. in_messages_lem o gs)
@@ -83,8 +83,8 @@ in_list Redist o =
     (λ n. tt)
 
 wide : (r : Frame) (w x : ℕ) (d : Decoded) → Found r d → Found r (if_wide w x d)
-wide r w x (At p) h = chosen (Found r) (wide_enough w x p) _ _ (λ t. h) (λ t. tt)
-wide r w x (Refused v) h = tt
+wide r w x (Ok p) h = chosen (Found r) (wide_enough w x p) _ _ (λ t. h) (λ t. tt)
+wide r w x (Err v) h = tt
 
 placed : (a : Access) → Found a.frame (place_of a)
 unfolding place_of
@@ -96,7 +96,7 @@ placed a =
     (λ u. chosen (Found r) (ltb 65535 a.offset) _ _ (λ v. tt)
     (λ v. wide r a.width (a.offset % 4) (listed r o) (in_list r o))))
 
-found : (a : Access) (p : Place) → place_of a ≡ At p → Placed a.frame p
+found : (a : Access) (p : Place) → place_of a ≡ Ok p → Placed a.frame p
 found a p e = rw e at (placed a)
 
 number : (r : Frame) (p : Place) → Placed r p → number_of p < 64
@@ -105,7 +105,7 @@ number r (place.Extended q f n) h = h.1
 number r place.Typer h = omega arith
 number r (place.Message g) h = omega arith
 
-pub placed_number : (a : Access) (p : Place) → place_of a ≡ At p → number_of p < 64
+pub placed_number : (a : Access) (p : Place) → place_of a ≡ Ok p → number_of p < 64
 placed_number a p e = number a.frame p (found a p e)
 
 -- THE WINDOW of such a place: of the access's frame, and one whose SGIs are the INTIDs below 16
@@ -161,5 +161,5 @@ aimed_at r (place.Extended q f n) h =
 aimed_at r place.Typer h = h
 aimed_at r (place.Message g) h = h
 
-pub placed_aimed : (a : Access) (p : Place) → place_of a ≡ At p → Aimed a.frame (target_of p)
+pub placed_aimed : (a : Access) (p : Place) → place_of a ≡ Ok p → Aimed a.frame (target_of p)
 placed_aimed a p e = aimed_at a.frame p (found a p e)

@@ -25,13 +25,13 @@ fn wide_enough(width: u32, low: u32, place: Place) -> bool
 fn if_wide(width: u32, low: u32, found: Decoded) -> Decoded
     ensures { result ≡ if_wide width low found }
 {
-    let Decoded::At(place) = found else {
+    let Ok(place) = found else {
         return found;
     };
     if wide_enough(width, low, place) {
-        Decoded::At(place)
+        Ok(place)
     } else {
-        Decoded::Refused(Refusal::Narrow)
+        Err(Refusal::Narrow)
     }
 }
 
@@ -42,13 +42,13 @@ pub fn place_of(request: Access) -> Decoded
     let width = request.width;
     let offset = request.offset;
     if !((width == 2) | (width == 4)) {
-        return Decoded::Refused(Refusal::Width);
+        return Err(Refusal::Width);
     }
     if !(offset % width == 0) {
-        return Decoded::Refused(Refusal::Alignment);
+        return Err(Refusal::Alignment);
     }
     if 65535 < offset {
-        return Decoded::Refused(Refusal::Offset);
+        return Err(Refusal::Offset);
     }
     let frame = request.frame;
     let low = offset % 4;

@@ -1,6 +1,7 @@
 -- What stands at an offset has the place that the meaning lists there (`agree`).
 --   within   in the first 4 KiB, by one computation a frame over the whole map
 --   beyond   past them, where the Distributor's extended words are all that is listed
+use Rattle.std.specs.Prelude.{Ok, Err}
 use mathlib.Core.Path.{◌≡◌, refl, sym, ap, ◌∙◌}
 use mathlib.Core.Bool.{cond}
 use mathlib.Core.List.{List, [], ◌∷◌}
@@ -14,8 +15,7 @@ use Rattle.types.specs.declared.Frame.TheVariants.{Dist, Redist}
 use Rattle.types.specs.declared.Family.{Family}
 use Rattle.types.specs.declared.Place.TheVariants as place
 use Rattle.types.specs.declared.Refusal.TheVariants as refusal
-use Rattle.types.specs.declared.Decoded.{Decoded}
-use Rattle.types.specs.declared.Decoded.TheVariants.{At, Refused}
+use Rattle.meaning.specs.Answers.{Decoded}
 use Rattle.meaning.specs.Registers.{row_of, families, messages, redist_place, in_column, in_messages, listed}
 use Rattle.register_families.proofs.Rows.{all_families, tidy}
 use Rattle.register_map.specs.Map.{code, code_at}
@@ -31,7 +31,7 @@ within Dist k h = tabulate_same (λ j. place_in Dist (entry_of (code_at j)) (4 *
 within Redist k h = tabulate_same (λ j. place_in Redist (entry_of (code_at j)) (4 * j)) (λ j. listed Redist (4 * j)) 1024 refl k h
 
 abbrev unlisted : Decoded
-unlisted = Refused refusal.Unlisted
+unlisted = Err refusal.Unlisted
 
 -- the column of the extended words
 abbrev ext : Family → ℕ
@@ -67,7 +67,7 @@ extended o =
     let out = all_families (NotIn ext extras o) n f (omega arith) in rw (le-ltb (word_at (ext f) o) (extras f) (omega arith)))
     refl families)
 
-singles : (o : ℕ) → 4096 ≤ o → cond (eqb o 0x004) (At place.Typer) (in_messages o messages unlisted) ≡ unlisted
+singles : (o : ℕ) → 4096 ≤ o → cond (eqb o 0x004) (Ok place.Typer) (in_messages o messages unlisted) ≡ unlisted
 unfolding in_messages
 singles o h =
     rw (ne_eqb o 0x004 (λ e. omega arith), ne_eqb o 0x040 (λ e. omega arith), ne_eqb o 0x048 (λ e. omega arith))

@@ -1,6 +1,7 @@
 -- Laws of a column of the listed words.
 --   column        what holds of each of its words, and of what is looked up next where it has none, holds of what is found
 --   column_past   a column that ends before an offset has nothing there
+use Rattle.std.specs.Prelude.{Ok}
 use mathlib.Core.Path.{◌≡◌, refl}
 use mathlib.Core.List.{List, [], ◌∷◌}
 use Prim.Native.Nat.{ℕ, ◌+◌, ◌*◌, ◌-◌, ◌/◌, ◌≤◌, ◌<◌}
@@ -8,8 +9,7 @@ use native.Mathlib.Omega.{arith}
 use Rattle.lists.proofs.Bools.{clash}
 use Rattle.types.specs.declared.Family.{Family}
 use Rattle.types.specs.declared.Place.{Place}
-use Rattle.types.specs.declared.Decoded.{Decoded}
-use Rattle.types.specs.declared.Decoded.TheVariants.{At}
+use Rattle.meaning.specs.Answers.{Decoded}
 use Rattle.meaning.specs.Interrupt.{between}
 use Rattle.meaning.specs.Registers.{in_column}
 use Rattle.meaning.proofs.Choices.{chosen}
@@ -21,7 +21,7 @@ abbrev pub NotIn : (Family → ℕ) → (Family → ℕ) → ℕ → Family → 
 NotIn from many o f = from f ≤ o → o < from f + 4 * many f → ⊥
 
 module _ (from many : Family → ℕ) (at : Family → ℕ → Place) (o : ℕ) (other : Decoded) where
-  pub column : (P : Decoded → Type 0) → ((f : Family) → from f ≤ o → o < from f + 4 * many f → P (At (at f ((o - from f) / 4))))
+  pub column : (P : Decoded → Type 0) → ((f : Family) → from f ≤ o → o < from f + 4 * many f → P (Ok (at f ((o - from f) / 4))))
       → (fs : List Family) → (All (NotIn from many o) fs → P other) → P (in_column from many at o fs other)
   unfolding in_column
   column P h [] k = k tt

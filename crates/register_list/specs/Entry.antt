@@ -1,13 +1,12 @@
 -- What stands at an offset, and its place in each frame: the way that the code goes. Proved to be `listed`, in both frames.
-use Rattle.std.specs.Prelude.{cond, List, [], ◌∷◌, ℕ, ◌-◌, ◌/◌, ◌%◌, eqb, ltb}
+use Rattle.std.specs.Prelude.{cond, List, [], ◌∷◌, ℕ, ◌-◌, ◌/◌, ◌%◌, eqb, ltb, Ok, Err}
 use Rattle.types.specs.declared.Frame.{Frame}
 use Rattle.types.specs.declared.Frame.TheVariants.{Dist, Redist}
 use Rattle.types.specs.declared.Family.{Family}
 use Rattle.types.specs.declared.Message.{Message}
 use Rattle.types.specs.declared.Place.TheVariants as place
 use Rattle.types.specs.declared.Refusal.TheVariants as refusal
-use Rattle.types.specs.declared.Decoded.{Decoded}
-use Rattle.types.specs.declared.Decoded.TheVariants.{At, Refused}
+use Rattle.meaning.specs.Answers.{Decoded}
 use Rattle.meaning.specs.Registers.{row_of, families, messages, redist_place}
 use Rattle.register_map.specs.Map.{family_code, message_code, code_at}
 use Rattle.register_list.specs.declared.Entry.{Entry}
@@ -40,20 +39,20 @@ word_at b o = (o - b) / 4
 
 -- word n of a family, of those that the Distributor has extended and of those that the Redistributor has
 abbrev pub extended_word : Family → ℕ → Decoded
-extended_word f n = cond (ltb n (row_of f).extras) (At (place.Extended Dist f n)) (Refused refusal.Unlisted)
+extended_word f n = cond (ltb n (row_of f).extras) (Ok (place.Extended Dist f n)) (Err refusal.Unlisted)
 
 abbrev pub redist_word : Family → ℕ → Decoded
-redist_word f n = cond (ltb n (row_of f).redist) (At (redist_place f n)) (Refused refusal.Unlisted)
+redist_word f n = cond (ltb n (row_of f).redist) (Ok (redist_place f n)) (Err refusal.Unlisted)
 
 -- an entry's place in a frame, at the offset o
 unfoldable pub place_in : Frame → Entry → ℕ → Decoded
-place_in Dist (entry.Register f) o = At (place.Word Dist f (word_at (row_of f).base o))
+place_in Dist (entry.Register f) o = Ok (place.Word Dist f (word_at (row_of f).base o))
 place_in Dist (entry.Extended f) o = extended_word f (word_at (row_of f).extended o)
-place_in Dist (entry.Message g) o = At (place.Message g)
-place_in Dist entry.Typer o = At place.Typer
-place_in Dist entry.None o = Refused refusal.Unlisted
+place_in Dist (entry.Message g) o = Ok (place.Message g)
+place_in Dist entry.Typer o = Ok place.Typer
+place_in Dist entry.None o = Err refusal.Unlisted
 place_in Redist (entry.Register f) o = redist_word f (word_at (row_of f).base o)
-place_in Redist (entry.Extended f) o = Refused refusal.Unlisted
-place_in Redist (entry.Message g) o = Refused refusal.Unlisted
-place_in Redist entry.Typer o = Refused refusal.Unlisted
-place_in Redist entry.None o = Refused refusal.Unlisted
+place_in Redist (entry.Extended f) o = Err refusal.Unlisted
+place_in Redist (entry.Message g) o = Err refusal.Unlisted
+place_in Redist entry.Typer o = Err refusal.Unlisted
+place_in Redist entry.None o = Err refusal.Unlisted

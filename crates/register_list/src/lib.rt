@@ -92,9 +92,9 @@ fn extended_word(f: Family, offset: u32) -> Decoded
     let extras = row.extras;
     let n = word_at(row.extended, offset);
     if extras <= n {
-        return Decoded::Refused(Refusal::Unlisted);
+        return Err(Refusal::Unlisted);
     }
-    Decoded::At(Place::Extended(Frame::Dist, f, n))
+    Ok(Place::Extended(Frame::Dist, f, n))
 }
 
 // A word of the Redistributor: its SGIs and PPIs, its extended PPIs, or no word.
@@ -106,12 +106,12 @@ fn redist_word(f: Family, offset: u32) -> Decoded
     let per = row.per;
     let n = word_at(row.base, offset);
     if words <= n {
-        return Decoded::Refused(Refusal::Unlisted);
+        return Err(Refusal::Unlisted);
     }
     if per * n < 32 {
-        Decoded::At(Place::Word(Frame::Redist, f, n))
+        Ok(Place::Word(Frame::Redist, f, n))
     } else {
-        Decoded::At(Place::Extended(Frame::Redist, f, n))
+        Ok(Place::Extended(Frame::Redist, f, n))
     }
 }
 
@@ -122,12 +122,12 @@ fn dist_place(entry: Entry, offset: u32) -> Decoded
     match entry {
         Entry::Register(f) => {
             let row = row_of(f);
-            Decoded::At(Place::Word(Frame::Dist, f, word_at(row.base, offset)))
+            Ok(Place::Word(Frame::Dist, f, word_at(row.base, offset)))
         }
         Entry::Extended(f) => extended_word(f, offset),
-        Entry::Message(g) => Decoded::At(Place::Message(g)),
-        Entry::Typer => Decoded::At(Place::Typer),
-        Entry::None => Decoded::Refused(Refusal::Unlisted),
+        Entry::Message(g) => Ok(Place::Message(g)),
+        Entry::Typer => Ok(Place::Typer),
+        Entry::None => Err(Refusal::Unlisted),
     }
 }
 
@@ -137,10 +137,10 @@ fn redist_place(entry: Entry, offset: u32) -> Decoded
 {
     match entry {
         Entry::Register(f) => redist_word(f, offset),
-        Entry::Extended(_) => Decoded::Refused(Refusal::Unlisted),
-        Entry::Message(_) => Decoded::Refused(Refusal::Unlisted),
-        Entry::Typer => Decoded::Refused(Refusal::Unlisted),
-        Entry::None => Decoded::Refused(Refusal::Unlisted),
+        Entry::Extended(_) => Err(Refusal::Unlisted),
+        Entry::Message(_) => Err(Refusal::Unlisted),
+        Entry::Typer => Err(Refusal::Unlisted),
+        Entry::None => Err(Refusal::Unlisted),
     }
 }
 

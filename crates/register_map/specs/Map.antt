@@ -1,5 +1,5 @@
 -- The auditors' register map: a code for what the word at 4·k of the Distributor frame is, or 0.
-use Rattle.std.specs.Prelude.{ℕ, ◌*◌}
+use Rattle.std.specs.Prelude.{ℕ, ◌*◌, Ok, Err}
 use Rattle.types.specs.declared.Frame.TheVariants.{Dist}
 use Rattle.types.specs.declared.Family.{Family}
 use Rattle.types.specs.declared.Family.TheVariants.{Igroupr, Isenabler, Icenabler, Ispendr, Icpendr}
@@ -7,8 +7,7 @@ use Rattle.types.specs.declared.Family.TheVariants.{Isactiver, Icactiver, Igrpmo
 use Rattle.types.specs.declared.Message.{Message}
 use Rattle.types.specs.declared.Message.TheVariants.{SetspiNsr, ClrspiNsr, SetspiSr, ClrspiSr}
 use Rattle.types.specs.declared.Place.TheVariants as place
-use Rattle.types.specs.declared.Decoded.{Decoded}
-use Rattle.types.specs.declared.Decoded.TheVariants.{At, Refused}
+use Rattle.meaning.specs.Answers.{Decoded}
 use Rattle.meaning.specs.Registers.{listed}
 
 abbrev pub family_code : Family → ℕ
@@ -29,11 +28,11 @@ message_code SetspiSr = 13
 message_code ClrspiSr = 14
 
 unfoldable pub code : Decoded → ℕ
-code (At (place.Word r f n)) = family_code f
-code (At (place.Extended r f n)) = 0
-code (At place.Typer) = 10
-code (At (place.Message g)) = message_code g
-code (Refused r) = 0
+code (Ok (place.Word r f n)) = family_code f
+code (Ok (place.Extended r f n)) = 0
+code (Ok place.Typer) = 10
+code (Ok (place.Message g)) = message_code g
+code (Err r) = 0
 
 unfoldable pub code_at : ℕ → ℕ
 code_at k = code (listed Dist (4 * k))

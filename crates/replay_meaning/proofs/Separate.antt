@@ -6,7 +6,7 @@ use mathlib.Core.Path.{◌≡◌, refl, ap}
 use mathlib.Core.List.{List, ◌++◌}
 use Prim.Native.Nat.{ℕ, ◌+◌}
 use Rattle.types.specs.declared.Side.TheVariants.{NonSecure}
-use Rattle.types.specs.declared.Answer.{Answer}
+use Rattle.meaning.specs.Answers.{Answer}
 use Rattle.meaning.specs.Layout.{Tables, cell_of}
 use Rattle.meaning.specs.Rule.{Step, access}
 use Rattle.meaning.specs.Step.{stepped}

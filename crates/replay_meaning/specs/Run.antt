@@ -8,8 +8,7 @@ use Rattle.types.specs.declared.Way.{Way}
 use Rattle.types.specs.declared.Way.TheVariants.{Read, Write}
 use Rattle.types.specs.declared.Shape.{Shape}
 use Rattle.types.specs.declared.Access.{Access}
-use Rattle.types.specs.declared.Answer.{Answer}
-use Rattle.meaning.specs.Answers.{status_of, value_of}
+use Rattle.meaning.specs.Answers.{Answer, status_of, value_of}
 use Rattle.meaning.specs.Layout.{Tables}
 use Rattle.meaning.specs.Rule.{access}
 use Rattle.meaning.specs.Step.{Outcome, stepped}

@@ -1,5 +1,6 @@
 -- DEMAND 3 of the rule: what the Non-secure side has after its step, and what it is answered, depends on what it had.
 --   confidential   the controller, interrupt by interrupt, obeys the laws of unwinding
+use Rattle.std.specs.Prelude.{Ok, Err}
 use mathlib.Core.Path.{◌≡◌, refl, sym, ap, ◌∙◌}
 use Rattle.lists.proofs.Rows.{row_same}
 use Rattle.types.specs.declared.Shape.{Shape}
@@ -12,10 +13,7 @@ use Rattle.types.specs.declared.Event.{Event}
 use Rattle.types.specs.declared.Event.TheVariants.{Wire, Activate, Deactivate}
 use Rattle.types.specs.declared.Target.{Target}
 use Rattle.types.specs.declared.Target.TheVariants as target
-use Rattle.types.specs.declared.Decoded.{Decoded}
-use Rattle.types.specs.declared.Decoded.TheVariants as decoded
-use Rattle.types.specs.declared.Answer.{Answer}
-use Rattle.types.specs.declared.Answer.TheVariants.{Done}
+use Rattle.meaning.specs.Answers.{Answer, Decoded}
 use Rattle.meaning.specs.Interrupt.{Interrupt, interrupt, named}
 use Rattle.meaning.specs.Cell.{Cell}
 use Rattle.meaning.specs.Registers.{kind_of, bits_of, place_of, target_of}
@@ -62,14 +60,14 @@ module _ (s : Shape) (a b : Cells) (alike : AlikeBy (watched s) a b) where
   read_same (target.Message g) = refl
 
   access_same : (x : Access) → x.side ≡ NonSecure → (d : Decoded) → access_answer s x d a ≡ access_answer s x d b
-  access_same x n (decoded.Refused r) = refl
-  access_same x n (decoded.At p) = by x.way
+  access_same x n (Err r) = refl
+  access_same x n (Ok p) = by x.way
     where
       answered : Way → Cells → Answer
-      answered w cells = elim w [ Read ↦ Done (read s x.side (target_of p) cells) | Write ↦ Done 0 ]
+      answered w cells = elim w [ Read ↦ Ok (read s x.side (target_of p) cells) | Write ↦ Ok 0 ]
 
       by : (w : Way) → answered w a ≡ answered w b
-      by Read = rw n (ap Done (read_same (target_of p)))
+      by Read = rw n (ap Ok (read_same (target_of p)))
       by Write = refl
 
   -- an event of the Non-secure side: the same cell's, or refused 7 in both

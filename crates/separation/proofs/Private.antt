@@ -2,6 +2,7 @@
 --   spared_word    a set or clear write at any listed word, with no 1 at what is owned
 --   secure_word    a field write at any listed word whose interrupts are none of them owned
 --   private_list   all of the list
+use Rattle.std.specs.Prelude.{Ok}
 use mathlib.Core.Path.{◌≡◌, refl, sym, ap, ◌∙◌}
 use mathlib.Core.Bool.{Bool, true, false, cond}
 use Prim.Native.Nat.{ℕ, ◌+◌, ◌*◌, ◌-◌, ◌/◌, ◌%◌, ◌^◌, ◌≤◌, ◌<◌}
@@ -27,7 +28,6 @@ use Rattle.types.specs.declared.Message.TheVariants.{SetspiNsr, ClrspiNsr, Setsp
 use Rattle.types.specs.declared.Place.{Place}
 use Rattle.types.specs.declared.Place.TheVariants as place
 use Rattle.types.specs.declared.Window.{Window}
-use Rattle.types.specs.declared.Decoded.TheVariants.{At}
 use Rattle.types.specs.declared.Event.TheVariants.{Wire, Activate, Deactivate}
 use Rattle.meaning.specs.Interrupt.{Interrupt, shared, own, intid, interrupt}
 use Rattle.meaning.specs.Cell.{owned}
@@ -46,7 +46,7 @@ use Rattle.separation.proofs.Answered.{column, listed_placed}
 use Rattle.separation.proofs.Unchanging.{unchanging, refused_step, a_read, typer_write}
 
 -- a Secure write to a place
-secure_deed : (a : Access) (p : Place) → a.side ≡ Secure → a.way ≡ Write → place_of a ≡ At p
+secure_deed : (a : Access) (p : Place) → a.side ≡ Secure → a.way ≡ Write → place_of a ≡ Ok p
     → deed_of (access a) ≡ write_to Secure (written_value a) (target_of p)
 unfolding deed_of
 secure_deed a p h w e =
@@ -243,8 +243,8 @@ icfgr s =
 
 -- THE MESSAGES
 message_writes : (s : Shape) (g : Message) (o : ℕ)
-    → ((v : ℕ) → place_of (record { frame = Dist; side = Secure; way = Write; width = 4; offset = o; value = v }) ≡ At (place.Message g))
-    → ((v : ℕ) → place_of (record { frame = Dist; side = Secure; way = Write; width = 2; offset = o; value = v }) ≡ At (place.Message g))
+    → ((v : ℕ) → place_of (record { frame = Dist; side = Secure; way = Write; width = 4; offset = o; value = v }) ≡ Ok (place.Message g))
+    → ((v : ℕ) → place_of (record { frame = Dist; side = Secure; way = Write; width = 2; offset = o; value = v }) ≡ Ok (place.Message g))
     → MessageWrites s o
 unfolding target_of written_value
 message_writes s g o wide narrow =

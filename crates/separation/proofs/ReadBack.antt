@@ -5,6 +5,7 @@
 --   ispendr_back   the demand's own: every listed word of ISPENDR is such
 --   icenabler_back, icactiver_back   and every listed word of these, of the clear words
 --   set_pending    those of ISPENDR offset by offset
+use Rattle.std.specs.Prelude.{Ok}
 use mathlib.Core.Path.{◌≡◌, refl, sym, ap, ap₂, ◌∙◌}
 use mathlib.Core.Bool.{Bool, true, false, cond, not, ◌&&◌, ◌||◌}
 use Prim.Native.Nat.{ℕ, ◌+◌, ◌-◌, ◌*◌, ◌≤◌, ◌<◌}
@@ -31,8 +32,7 @@ use Rattle.types.specs.declared.Place.TheVariants as place
 use Rattle.types.specs.declared.Window.{Window}
 use Rattle.types.specs.declared.Target.{Target}
 use Rattle.types.specs.declared.Target.TheVariants as target
-use Rattle.types.specs.declared.Decoded.{Decoded}
-use Rattle.types.specs.declared.Answer.TheVariants.{Done}
+use Rattle.meaning.specs.Answers.{Decoded}
 use Rattle.meaning.specs.Interrupt.{Interrupt, intid, interrupt, in_frame, between}
 use Rattle.meaning.specs.Cell.{Cell, get, owned}
 use Rattle.meaning.specs.Layout.{Tables, well_formed, cell_of}
@@ -152,12 +152,12 @@ module _ (s : Shape) (t : Tables) (well : well_formed s t ≡ true) (r : Frame) 
   asked x v = record { frame = r; side = NonSecure; way = x; width = 4; offset = o; value = v }
 
   -- a read shows the word of the interrupts as they are
-  pub word_read_lem : (u : Tables) → well_formed s u ≡ true → (y : ℕ) → read_at s r o y u ≡ Done (word_read s NonSecure w (cell_of s u))
+  pub word_read_lem : (u : Tables) → well_formed s u ≡ true → (y : ℕ) → read_at s r o y u ≡ Ok (word_read s NonSecure w (cell_of s u))
   unfolding answer read asked
   word_read_lem u h y =
       answer_well s (access (asked Read y)) u h
       ∙ (ap (λ (d : Decoded). access_answer s (asked Read y) d (cell_of s u)) (listed_placed r o p listed_at NonSecure Read y)
-      ∙ ap (λ (g : Target). Done (read s NonSecure g (cell_of s u))) word)
+      ∙ ap (λ (g : Target). Ok (read s NonSecure g (cell_of s u))) word)
 
   write_deed : (v : ℕ) → deed_of (non_secure_word r Write o v) ≡ write NonSecure w v
   unfolding deed_of written_value asked
@@ -165,55 +165,55 @@ module _ (s : Shape) (t : Tables) (well : well_formed s t ≡ true) (r : Frame) 
 
   -- and after a write the interrupts are those of its deed
   written_read : (v z : ℕ)
-      → read_at s r o z (written_at s r o v t) ≡ Done (word_read s NonSecure w (λ i. performed s (write NonSecure w v) i (cell_of s t i)))
+      → read_at s r o z (written_at s r o v t) ≡ Ok (word_read s NonSecure w (λ i. performed s (write NonSecure w v) i (cell_of s t i)))
   unfolding act
   written_read v z =
       word_read_lem (written_at s r o v t) (well_kept s (non_secure_word r Write o v) t well) z
-      ∙ ap (λ (cells : Cells). Done (word_read s NonSecure w cells)) (λ x i. cell i x)
+      ∙ ap (λ (cells : Cells). Ok (word_read s NonSecure w cells)) (λ x i. cell i x)
     where
       cell : (i : Interrupt) → cell_of s (written_at s r o v t) i ≡ performed s (write NonSecure w v) i (cell_of s t i)
       cell i = cells_stepped s (non_secure_word r Write o v) t well i ∙ ap (λ (d : Deed). performed s d i (cell_of s t i)) (write_deed v)
 
-  old_word : (old y : ℕ) → read_at s r o y t ≡ Done old → word_read s NonSecure w (cell_of s t) ≡ old
+  old_word : (old y : ℕ) → read_at s r o y t ≡ Ok old → word_read s NonSecure w (cell_of s t) ≡ old
   old_word old y was = let e = sym (word_read_lem t well y) ∙ was in cc
 
   -- Read, set (enable, pending or active), read: the old word, or v and the owned bits.
-  pub read_back : (b : Switch) → kind_of w.family ≡ Switched true b → (old v y z : ℕ) → read_at s r o y t ≡ Done old
-      → read_at s r o z (written_at s r o v t) ≡ Done (old_or_owned w old v (cell_of s t))
+  pub read_back : (b : Switch) → kind_of w.family ≡ Switched true b → (old v y z : ℕ) → read_at s r o y t ≡ Ok old
+      → read_at s r o z (written_at s r o v t) ≡ Ok (old_or_owned w old v (cell_of s t))
   unfolding old_or_owned
   read_back b kind old v y z was =
       written_read v z
-      ∙ (ap Done
+      ∙ (ap Ok
       (word_after s true b ◌||◌ (λ d i c. set_shown s NonSecure i c b d) w kind v (cell_of s t) (λ x o y. (x && o) || y) set_form)
-      ∙ ap (λ (n : ℕ). Done (old_or_owned w n v (cell_of s t))) (old_word old y was))
+      ∙ ap (λ (n : ℕ). Ok (old_or_owned w n v (cell_of s t))) (old_word old y was))
 
   -- Read, clear (enable or active), read: the old word, and not v.
   pub cleared_back : (b : Switch) → clears_shown b ≡ true → kind_of w.family ≡ Switched false b → (old v y z : ℕ)
-      → read_at s r o y t ≡ Done old → read_at s r o z (written_at s r o v t) ≡ Done (old_and_not w old v)
+      → read_at s r o y t ≡ Ok old → read_at s r o z (written_at s r o v t) ≡ Ok (old_and_not w old v)
   unfolding old_and_not
   cleared_back b shown kind old v y z was =
       written_read v z
-      ∙ (ap Done
+      ∙ (ap Ok
       (word_after s false b (λ x y. not x && y) (clear_shown s b shown) w kind v (cell_of s t) (λ x o y. not x && y) clear_form)
-      ∙ ap (λ (n : ℕ). Done (old_and_not w n v)) (old_word old y was))
+      ∙ ap (λ (n : ℕ). Ok (old_and_not w n v)) (old_word old y was))
 
 -- THE DEMAND'S OWN: every listed word of ISPENDR, at whatever offset of either frame, is such a word ..
 pub ispendr_back : (s : Shape) (t : Tables) → well_formed s t ≡ true → (r : Frame) (o : ℕ) (p : Place) → ListedAt r o p → (w : Window)
-    → target_of p ≡ target.Digits w → w.family ≡ Ispendr → (old v y z : ℕ) → read_at s r o y t ≡ Done old
-    → read_at s r o z (written_at s r o v t) ≡ Done (old_or_owned w old v (cell_of s t))
+    → target_of p ≡ target.Digits w → w.family ≡ Ispendr → (old v y z : ℕ) → read_at s r o y t ≡ Ok old
+    → read_at s r o z (written_at s r o v t) ≡ Ok (old_or_owned w old v (cell_of s t))
 unfolding row_of
 ispendr_back s t well r o p at w is f = read_back s t well r o p at w is Pending (ap kind_of f)
 
 -- .. and every listed word of ICENABLER and ICACTIVER is one of the clear words ..
 module _ (s : Shape) (t : Tables) (well : well_formed s t ≡ true) (r : Frame) (o : ℕ) (p : Place) (at : ListedAt r o p) (w : Window)
     (is : target_of p ≡ target.Digits w) where
-  pub icenabler_back : w.family ≡ Icenabler → (old v y z : ℕ) → read_at s r o y t ≡ Done old
-      → read_at s r o z (written_at s r o v t) ≡ Done (old_and_not w old v)
+  pub icenabler_back : w.family ≡ Icenabler → (old v y z : ℕ) → read_at s r o y t ≡ Ok old
+      → read_at s r o z (written_at s r o v t) ≡ Ok (old_and_not w old v)
   unfolding row_of
   icenabler_back f = cleared_back s t well r o p at w is Enable refl (ap kind_of f)
 
-  pub icactiver_back : w.family ≡ Icactiver → (old v y z : ℕ) → read_at s r o y t ≡ Done old
-      → read_at s r o z (written_at s r o v t) ≡ Done (old_and_not w old v)
+  pub icactiver_back : w.family ≡ Icactiver → (old v y z : ℕ) → read_at s r o y t ≡ Ok old
+      → read_at s r o z (written_at s r o v t) ≡ Ok (old_and_not w old v)
   unfolding row_of
   icactiver_back f = cleared_back s t well r o p at w is Active refl (ap kind_of f)
 

@@ -3,6 +3,7 @@
 --   refused_step   refused for whatever reason: a Secure activation refused 9 is one
 --   a_read, typer_write, res0_write, sgi_fields   reads; writes to TYPER, to a res0 word, to the SGIs' fields
 --   no_messages, missing_message, no_spi   messages without mbis; those that name a missing interrupt, or a number that is no SPI's
+use Rattle.std.specs.Prelude.{Ok, Err}
 use mathlib.Core.Path.{◌≡◌, refl, ap, ◌∙◌}
 use mathlib.Core.Bool.{Bool, true, false, ◌&&◌, ◌||◌, and-false}
 use Prim.Native.Nat.{ℕ, ◌*◌, ◌%◌, ◌<◌}
@@ -22,8 +23,6 @@ use Rattle.types.specs.declared.Place.{Place}
 use Rattle.types.specs.declared.Place.TheVariants as place
 use Rattle.types.specs.declared.Message.{Message}
 use Rattle.types.specs.declared.Refusal.{Refusal}
-use Rattle.types.specs.declared.Decoded.TheVariants.{At}
-use Rattle.types.specs.declared.Answer.TheVariants.{Refused}
 use Rattle.meaning.specs.Interrupt.{Interrupt, shared, own, intid, sgi, between}
 use Rattle.meaning.specs.Cell.{Cell}
 use Rattle.meaning.specs.Layout.{Tables, in_range, Home, nowhere, home_of, present_at, implemented, cell_of}
@@ -64,7 +63,7 @@ module _ (s : Shape) (cells : Cells) where
   unchanging q h i = ap glimpse (h i)
 
   -- refused steps, for whatever reason: a Secure activation refused 9 is one
-  pub refused_step : (q : Step) (r : Refusal) → answer s q cells ≡ Refused r → PrivateStep s cells q
+  pub refused_step : (q : Step) (r : Refusal) → answer s q cells ≡ Err r → PrivateStep s cells q
   refused_step q r h = unchanging q (λ i. step_left s q cells r i h)
 
   module _ (a : Access) where
@@ -79,33 +78,33 @@ module _ (s : Shape) (cells : Cells) where
         (λ i. by_access (Leaves i) a (idle_left s i (cells i)) (λ p e w. absurd (let z : ◌≡◌ {A = ℕ} 0 1 = cc in omega arith)))
 
     -- writes to a place that changes nothing
-    write_left : (p : Place) → place_of a ≡ At p → ((i : Interrupt) → Leaves i (write_to a.side (written_value a) (target_of p)))
+    write_left : (p : Place) → place_of a ≡ Ok p → ((i : Interrupt) → Leaves i (write_to a.side (written_value a) (target_of p)))
         → PrivateStep s cells (access a)
     unfolding act
     write_left p e h = unchanging (access a) (λ i. by_place (Leaves i) a (idle_left s i (cells i)) p e (λ w. h i))
 
-    pub typer_write : place_of a ≡ At place.Typer → PrivateStep s cells (access a)
+    pub typer_write : place_of a ≡ Ok place.Typer → PrivateStep s cells (access a)
     unfolding target_of
     typer_write e = write_left place.Typer e (λ i. idle_left s i (cells i))
 
     -- a res0 word: one of the Distributor that begins with an INTID below 32
-    pub res0_write : (f : Family) (n : ℕ) → per_word f * n < 32 → place_of a ≡ At (place.Word Dist f n) → PrivateStep s cells (access a)
+    pub res0_write : (f : Family) (n : ℕ) → per_word f * n < 32 → place_of a ≡ Ok (place.Word Dist f n) → PrivateStep s cells (access a)
     res0_write f n l e =
         write_left (place.Word Dist f n) e (λ i. res0_left s a.side f n (lt-ltb (per_word f * n) 32 l) (written_value a) i (cells i))
 
     -- Redistributor ICFGR word 0
-    pub sgi_fields : place_of a ≡ At (place.Word Redist Icfgr 0) → PrivateStep s cells (access a)
+    pub sgi_fields : place_of a ≡ Ok (place.Word Redist Icfgr 0) → PrivateStep s cells (access a)
     sgi_fields e = write_left (place.Word Redist Icfgr 0) e (λ i. sgi_word s a.side (written_value a) i (cells i))
 
     -- a message register with mbis no ..
-    pub no_messages : (g : Message) → place_of a ≡ At (place.Message g) → s.mbis ≡ false → PrivateStep s cells (access a)
+    pub no_messages : (g : Message) → place_of a ≡ Ok (place.Message g) → s.mbis ≡ false → PrivateStep s cells (access a)
     unfolding target_of aims
     no_messages g e h =
         write_left (place.Message g) e
         (λ i. unaimed_left s (send a.side g (written_value a)) i (cells i) (none_addressed s (written_value a) i h))
 
     -- .. or a message that names a missing interrupt
-    pub missing_message : (g : Message) → place_of a ≡ At (place.Message g) → (cells (shared (written_value a % 8192))).implemented ≡ false
+    pub missing_message : (g : Message) → place_of a ≡ Ok (place.Message g) → (cells (shared (written_value a % 8192))).implemented ≡ false
         → PrivateStep s cells (access a)
     unfolding target_of aims
     missing_message g e h = write_left (place.Message g) e (λ i. by i (addresses s (written_value a) i) refl)
@@ -117,7 +116,7 @@ module _ (s : Shape) (cells : Cells) where
         by i false t = unaimed_left s (send a.side g (written_value a)) i (cells i) t
 
 -- on the lent tables a number that is no SPI's and no extended SPI's names a missing interrupt
-pub no_spi : (s : Shape) (t : Tables) (a : Access) (g : Message) → place_of a ≡ At (place.Message g)
+pub no_spi : (s : Shape) (t : Tables) (a : Access) (g : Message) → place_of a ≡ Ok (place.Message g)
     → home_of (shared (written_value a % 8192)) ≡ nowhere → PrivateStep s (cell_of s t) (access a)
 unfolding implemented
 no_spi s t a g e h =

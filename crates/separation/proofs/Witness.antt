@@ -7,6 +7,7 @@
 --   first_apart, second_apart      SPI 45's record where it takes its steps: 0 in one run, 4 in the other
 --   none_heard                     the same answers from the table where no Secure interrupt exists
 --   not_refused                    its word access at 0x224 is done
+use Rattle.std.specs.Prelude.{Ok}
 use mathlib.Core.Path.{◌≡◌, refl, sym, ap, ◌∙◌, subst}
 use mathlib.Core.Bool.{Bool, true, false, ◌&&◌}
 use mathlib.Core.List.{List, [], ◌∷◌, ◌++◌}
@@ -25,8 +26,7 @@ use Rattle.types.specs.declared.Family.TheVariants.{Ispendr}
 use Rattle.types.specs.declared.Place.TheVariants as place
 use Rattle.types.specs.declared.Side.TheVariants.{NonSecure}
 use Rattle.types.specs.declared.Window.{Window}
-use Rattle.types.specs.declared.Answer.{Answer}
-use Rattle.types.specs.declared.Answer.TheVariants.{Done}
+use Rattle.meaning.specs.Answers.{Answer}
 use Rattle.meaning.specs.Interrupt.{Interrupt, intid, same, named, frame_of, sgi}
 use Rattle.meaning.specs.Cell.{get, put, has, decode, non_secure, owned, pending, edge_of}
 use Rattle.meaning.specs.Layout.{Tables, records_of, well_formed, lengths_fit, shape_fits, intid_at, interrupt_at, in_range}
@@ -248,7 +248,7 @@ at_224 = record { small = omega arith; aligned = refl; known = refl }
 abbrev word_9 : Window
 word_9 = record { frame = Dist; family = Ispendr; first = 288; count = 32 }
 
-seen : (t : Tables) → well_formed bench t ≡ true → read_at bench Dist 0x224 0 t ≡ Done (word_read bench NonSecure word_9 (cell_of bench t))
+seen : (t : Tables) → well_formed bench t ≡ true → read_at bench Dist 0x224 0 t ≡ Ok (word_read bench NonSecure word_9 (cell_of bench t))
 unfolding target_of row_of
 seen t h = word_read_lem bench t h Dist 0x224 (place.Word Dist Ispendr 9) at_224 word_9 refl t h 0
 
@@ -295,13 +295,13 @@ unfolding word_read row visible reaches may_touch sees shows pending edge_of sgi
     get put digit_at
 word_2 = refl
 
-first_look : read_at bench Dist 0x224 0 t_1 ≡ Done 0x2000
-first_look = seen t_1 well_1 ∙ ap (λ (cells : Cells). Done (word_read bench NonSecure word_9 cells)) cells_1 ∙ ap Done word_1
+first_look : read_at bench Dist 0x224 0 t_1 ≡ Ok 0x2000
+first_look = seen t_1 well_1 ∙ ap (λ (cells : Cells). Ok (word_read bench NonSecure word_9 cells)) cells_1 ∙ ap Ok word_1
 
-second_look : read_at bench Dist 0x224 0 t_2 ≡ Done 0x2000
-second_look = seen t_2 well_2 ∙ ap (λ (cells : Cells). Done (word_read bench NonSecure word_9 cells)) cells_2 ∙ ap Done word_2
+second_look : read_at bench Dist 0x224 0 t_2 ≡ Ok 0x2000
+second_look = seen t_2 well_2 ∙ ap (λ (cells : Cells). Ok (word_read bench NonSecure word_9 cells)) cells_2 ∙ ap Ok word_2
 
-marked : (stepped bench mark t_2).answered ≡ Done 0
+marked : (stepped bench mark t_2).answered ≡ Ok 0
 unfolding answer place_of listed in_column row_of
 marked = answer_well bench mark t_2 well_2
 
@@ -310,14 +310,14 @@ unfolding old_or_owned row owned reaches may_touch non_secure cell_of implemente
     deed_of place_of written_value listed in_column row_of target_of aims names admits effect update switched get put digit_at
 set_word = refl
 
-third_look : read_at bench Dist 0x224 0 (written_at bench Dist 0x224 0x1000 t_2) ≡ Done 0x3000
+third_look : read_at bench Dist 0x224 0 (written_at bench Dist 0x224 0x1000 t_2) ≡ Ok 0x3000
 third_look =
     (set_pending bench t_2 well_2).dist 8 (omega arith) 0x2000 0x1000 0 0 second_look
-    ∙ ap (λ (cells : Cells). Done (old_or_owned word_9 0x2000 0x1000 cells)) cells_2
-    ∙ ap Done set_word
+    ∙ ap (λ (cells : Cells). Ok (old_or_owned word_9 0x2000 0x1000 cells)) cells_2
+    ∙ ap Ok set_word
 
 abbrev answers : List Answer
-answers = Done 0x2000 ∷ (Done 0 ∷ (Done 0x3000 ∷ []))
+answers = Ok 0x2000 ∷ (Ok 0 ∷ (Ok 0x3000 ∷ []))
 
 alone_heard : heard (sights (controller bench) before (without_private first_run)) ≡ answers
 unfolding t_1 t_2
@@ -338,7 +338,7 @@ none_heard =
     (as_if_none bench before before_well first_run first_honest).1) ∙ first_heard
 
 -- NO REFUSAL at 0x224
-pub not_refused : (v : ℕ) × ((stepped bench look other).answered ≡ Done v)
+pub not_refused : (v : ℕ) × ((stepped bench look other).answered ≡ Ok v)
 not_refused = word_answered bench other other_well _ (place.Word Dist Ispendr 9) refl at_224
 
 -- THE SECURE RECORDS stay apart: where the Non-secure side takes its three steps SPI 45's record is 0 in the first run, 4 in the second

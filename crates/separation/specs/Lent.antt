@@ -5,7 +5,7 @@ use Rattle.lists.specs.Word.{digit, bit_at, row}
 use Rattle.types.specs.declared.Frame.{Frame}
 use Rattle.types.specs.declared.Frame.TheVariants.{Dist, Redist}
 use Rattle.types.specs.declared.Shape.{Shape}
-use Rattle.types.specs.declared.Answer.{Answer}
+use Rattle.meaning.specs.Answers.{Answer}
 use Rattle.meaning.specs.Interrupt.{Interrupt, interrupt}
 use Rattle.meaning.specs.Cell.{Cell, non_secure, owned}
 use Rattle.meaning.specs.Layout.{Tables, records_of, presence_of, slots, interrupt_at, home_of, record_at, well_formed, implemented}

@@ -1,6 +1,6 @@
 -- Document 01's "Private Secure steps", each by its name and at its offsets: what there is to show of `PrivateStep` for it to be no
 -- narrower than that list. proofs/Private.antt shows it (`private_list`).
-use Rattle.std.specs.Prelude.{◌≡◌, Bool, true, false, ℕ, ◌+◌, ◌*◌, ◌%◌, ◌<◌}
+use Rattle.std.specs.Prelude.{◌≡◌, Bool, true, false, ℕ, ◌+◌, ◌*◌, ◌%◌, ◌<◌, Err}
 use Rattle.lists.specs.Word.{bit_at}
 use Rattle.types.specs.declared.Frame.{Frame}
 use Rattle.types.specs.declared.Frame.TheVariants.{Dist, Redist}
@@ -9,7 +9,6 @@ use Rattle.types.specs.declared.Side.TheVariants.{Secure}
 use Rattle.types.specs.declared.Way.TheVariants.{Read, Write}
 use Rattle.types.specs.declared.Access.{Access}
 use Rattle.types.specs.declared.Refusal.{Refusal}
-use Rattle.types.specs.declared.Answer.TheVariants.{Refused}
 use Rattle.types.specs.declared.Event.TheVariants.{Wire, Activate, Deactivate}
 use Rattle.meaning.specs.Interrupt.{Interrupt, shared, own, named}
 use Rattle.meaning.specs.Cell.{owned}
@@ -74,6 +73,6 @@ pub record PrivateList (s : Shape) : Type 0 where
   pub deactivation : (cells : Cells) (m : ℕ) → owned (cells (named m)) ≡ false → PrivateStep s cells (happens (Deactivate Secure) m)
   -- steps that can change no record: reads, refused steps, TYPER writes, and whatever else leaves every record as it is
   pub reads : (cells : Cells) (a : Access) → a.way ≡ Read → PrivateStep s cells (access a)
-  pub refused : (cells : Cells) (q : Step) (r : Refusal) → answer s q cells ≡ Refused r → PrivateStep s cells q
+  pub refused : (cells : Cells) (q : Step) (r : Refusal) → answer s q cells ≡ Err r → PrivateStep s cells q
   pub typer : (cells : Cells) (v : ℕ) → PrivateStep s cells (secure_write Dist 4 0x004 v)
   pub unchanging : (cells : Cells) (q : Step) → ((i : Interrupt) → act s q i (cells i) ≡ cells i) → PrivateStep s cells q

@@ -1,5 +1,5 @@
 -- Listed words, and what the Non-secure side reads back of what it wrote there.
-use Rattle.std.specs.Prelude.{◌≡◌, Bool, true, false, not, ◌&&◌, ◌||◌, ℕ, ◌+◌, ◌*◌, ◌%◌, ◌≤◌, ◌<◌, eqb}
+use Rattle.std.specs.Prelude.{◌≡◌, Bool, true, false, not, ◌&&◌, ◌||◌, ℕ, ◌+◌, ◌*◌, ◌%◌, ◌≤◌, ◌<◌, eqb, Ok}
 use Rattle.lists.specs.Word.{digit, digit_at, row}
 use Rattle.types.specs.declared.Side.TheVariants.{NonSecure}
 use Rattle.types.specs.declared.Frame.{Frame}
@@ -10,11 +10,9 @@ use Rattle.types.specs.declared.Way.TheVariants.{Read, Write}
 use Rattle.types.specs.declared.Switch.{Switch}
 use Rattle.types.specs.declared.Switch.TheVariants.{Enable, Pending, Active}
 use Rattle.types.specs.declared.Place.{Place}
-use Rattle.types.specs.declared.Decoded.TheVariants.{At}
-use Rattle.types.specs.declared.Answer.{Answer}
-use Rattle.types.specs.declared.Answer.TheVariants.{Done}
 use Rattle.types.specs.declared.Family.TheVariants.{Ispendr}
 use Rattle.types.specs.declared.Window.{Window}
+use Rattle.meaning.specs.Answers.{Answer}
 use Rattle.meaning.specs.Interrupt.{interrupt}
 use Rattle.meaning.specs.Cell.{owned}
 use Rattle.meaning.specs.Layout.{Tables, cell_of}
@@ -26,7 +24,7 @@ use Rattle.meaning.specs.Step.{Cells, stepped}
 pub record ListedAt (r : Frame) (o : ℕ) (p : Place) : Type 0 where
   pub small : o ≤ 65535
   pub aligned : o % 4 ≡ 0
-  pub known : listed r o ≡ At p
+  pub known : listed r o ≡ Ok p
 
 -- a word access of the Non-secure side
 abbrev pub non_secure_word : Frame → Way → ℕ → ℕ → Step
@@ -62,9 +60,9 @@ clears_shown Active = true
 -- written bit that the Non-secure side owns.
 abbrev pub ReadsBack : Shape → Tables → Frame → ℕ → ℕ → ℕ → Type 0
 ReadsBack s t r o first count =
-    (old v y z : ℕ) → read_at s r o y t ≡ Done old
+    (old v y z : ℕ) → read_at s r o y t ≡ Ok old
     → read_at s r o z (written_at s r o v t)
-    ≡ Done (old_or_owned (record { frame = r; family = Ispendr; first = first; count = count }) old v (cell_of s t))
+    ≡ Ok (old_or_owned (record { frame = r; family = Ispendr; first = first; count = count }) old v (cell_of s t))
 
 pub record SetPending (s : Shape) (t : Tables) : Type 0 where
   -- the Distributor's word 0 is res0: it has a bit of none

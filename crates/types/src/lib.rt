@@ -150,18 +150,10 @@ pub enum Refusal {
 }
 
 // Where an access goes, or why it goes nowhere.
-#[derive(Clone, Copy)]
-pub enum Decoded {
-    At(Place),
-    Refused(Refusal),
-}
+pub type Decoded = Result<Place, Refusal>;
 
 // What a step is answered: done with a value (0 for a write or an event), or refused.
-#[derive(Clone, Copy)]
-pub enum Answer {
-    Done(u32),
-    Refused(Refusal),
-}
+pub type Answer = Result<u32, Refusal>;
 
 // A state of an interrupt that a written 1 switches on or off.
 #[derive(Clone, Copy)]

@@ -1,11 +1,11 @@
 -- `access` is `stepped`. Four ways out: refusal 1 (returns-then-not-well_formed), refusals 2 to 6 (returns-in_default), the Distributor
 -- frame (returns-in-Dist), the Redistributor frame (returns-in-Redist).
+use Rattle.std.specs.Prelude.{Ok}
 use mathlib.Core.Path.{◌≡◌, refl, sym, ap, ◌∙◌}
 use mathlib.Core.Bool.{true}
 use Rattle.types.specs.declared.Frame.{Frame}
 use Rattle.types.specs.declared.Frame.TheVariants.{Dist, Redist}
 use Rattle.types.specs.declared.Place.{Place}
-use Rattle.types.specs.declared.Decoded.TheVariants as decoded
 use Rattle.meaning.specs.Layout.{Tables, lent, presence_of, well_formed}
 use Rattle.meaning.specs.Registers.{place_of}
 use Rattle.meaning.specs.Rule.{access}
@@ -34,17 +34,17 @@ well c =
     sym (w.well_formed-2.ensures (T (entry w)) refl refl refl refl) ∙ c.if-not-well_formed.false
 
 -- once the place is known
-abbrev found : tie.In-At → tie.After-place_of-found
+abbrev found : tie.In-Ok → tie.After-place_of-found
 found c = c.before
 
-abbrev P : tie.In-At → Place
-P c = c.in-At.place
+abbrev P : tie.In-Ok → Place
+P c = c.in-Ok.place
 
-placed : (c : tie.In-At) → place_of (start (found c)).args.request ≡ decoded.At (P c)
-placed c = sym (found c).place_of-found.ensures ∙ c.in-At.is
+placed : (c : tie.In-Ok) → place_of (start (found c)).args.request ≡ Ok (P c)
+placed c = sym (found c).place_of-found.ensures ∙ c.in-Ok.is
 
 -- once its target is known
-abbrev known : tie.After-target_of-target → tie.In-At
+abbrev known : tie.After-target_of-target → tie.In-Ok
 known c = c.before
 
 abbrev first : tie.After-target_of-target → tie.Start

@@ -9,11 +9,11 @@ enum_told-1 c = search rules
 enum_known-found : tie.Need-enum_known-found
 enum_known-found c = search rules
 
-returns-in-At : tie.Need-returns-in-At
-returns-in-At c r h = let e = c.in-At.is in cc
+returns-in-Ok : tie.Need-returns-in-Ok
+returns-in-Ok c r h = let e = c.in-Ok.is in cc
 
-returns-in-Refused : tie.Need-returns-in-Refused
-returns-in-Refused c r h = let e = c.in-Refused.is in cc
+returns-in-Err : tie.Need-returns-in-Err
+returns-in-Err c r h = let e = c.in-Err.is in cc
 
 pub refused_spec : {M : Type 1} → statement M
 refused_spec =
@@ -21,5 +21,5 @@ refused_spec =
     (tie.spec
     enum_told-1
     enum_known-found
-    returns-in-At
-    returns-in-Refused)
+    returns-in-Ok
+    returns-in-Err)

@@ -2,7 +2,7 @@
 -- (returns-in-Deactivate).
 use mathlib.Core.Path.{◌≡◌, refl, ◌∙◌}
 use mathlib.Core.Bool.{Bool, true, false, cond, not}
-use Rattle.types.specs.declared.Answer.{Answer}
+use Rattle.meaning.specs.Answers.{Answer}
 use Rattle.meaning.specs.Cell.{get}
 use Rattle.record_events.proofs.ready.Goals as goal
 

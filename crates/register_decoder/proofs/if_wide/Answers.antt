@@ -3,8 +3,8 @@ use Rattle.register_decoder.proofs.if_wide.Goals as goal
 
 pub returns-then-wide_enough : goal.returns-then-wide_enough
 returns-then-wide_enough = λ c.
-    let p = c in rw (p.in-At.is, ← c.wide_enough.ensures, c.if-wide_enough.true)
+    let p = c in rw (p.in-Ok.is, ← c.wide_enough.ensures, c.if-wide_enough.true)
 
 pub returns-else-wide_enough : goal.returns-else-wide_enough
 returns-else-wide_enough = λ c.
-    let p = c in rw (p.in-At.is, ← c.wide_enough.ensures, c.if-wide_enough.false)
+    let p = c in rw (p.in-Ok.is, ← c.wide_enough.ensures, c.if-wide_enough.false)

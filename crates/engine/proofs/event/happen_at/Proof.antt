@@ -49,7 +49,7 @@ returns c s i h =
     let a = (entry n).args in
     let e = n.answer_to-answer.ensures s i h in (
       e,
-      done_set s a.event i (C n) a.at c.happened.result a.records.now (ap is_done (sym e ∙ c.in-Done.is))
+      done_set s a.event i (C n) a.at c.happened.result a.records.now (ap is_done (sym e ∙ c.in-Ok.is))
           (c.happened.ensures s i a.implemented h),
     )
 
