@@ -1,44 +1,55 @@
-// The register families. Each is a type that carries its own numbers, here and nowhere else:
-//   BASE           offset of word 0, the same in the Distributor and the Redistributor frame
-//   EXTENDED       offset of extended word 0 in the Distributor frame
-//   WORDS          how many words the Distributor has, and how many extended ones
-//   REDIST_WORDS   how many words the Redistributor has
-//   DIGIT_BITS     how many bits of a word an interrupt has
-//   PER_WORD       how many interrupts a word has
-//   ROW            all of these, and what the digits are
-#![tactic(auto)]
+// The register families. Each is a type that carries its own numbers, here and nowhere else.
+#![tactic(auto, unfolding(meaning::specs::Registers::row_of))]
 
 ghost use Rattle.std.specs.Prelude.{◌≡◌};
+ghost use Rattle.types.specs.declared.Family.{Family};
+ghost use Rattle.types.specs.declared.Row.{Row};
 ghost use Rattle.meaning.specs.Registers.{row_of};
 
 use types::{Family, Guard, Kind, Row, Switch};
+
+// What each family carries. Each impl is proved to have the meaning's row.
+pub trait Register {
+    ghost ROW: { Row };
+
+    // Offset of word 0, the same in the Distributor and the Redistributor frame.
+    const BASE: u32;
+
+    // Offset of extended word 0 in the Distributor frame.
+    const EXTENDED: u32;
+
+    // Its row of document 01's table: both offsets, what its digits are, and how many bits, digits and words there are of them.
+    const ROW: Row;
+}
+
+// What the families with one bit for each interrupt share. The kind and the offsets are each family's own.
+const ONE_BIT: Row = Row {
+    kind: Kind::Trigger,
+    bits: 1,
+    per: 32,
+    base: 0,
+    words: 32,
+    extended: 0,
+    extras: 32,
+    redist: 3,
+};
 
 // The group bit of each interrupt.
 #[derive(Drop)]
 pub struct Igroupr;
 
-impl Igroupr {
-    pub const BASE: u32 = 0x080;
+impl Register for Igroupr {
+    ghost ROW = { row_of Family.Igroupr };
 
-    pub const EXTENDED: u32 = 0x1000;
+    const BASE: u32 = 0x080;
 
-    pub const WORDS: u32 = 32;
-
-    pub const REDIST_WORDS: u32 = 3;
-
-    pub const DIGIT_BITS: u32 = 1;
-
-    pub const PER_WORD: u32 = 32;
+    const EXTENDED: u32 = 0x1000;
 
     const ROW: Row = Row {
         kind: Kind::Guarded(Guard::Group),
-        bits: Self::DIGIT_BITS,
-        per: Self::PER_WORD,
         base: Self::BASE,
-        words: Self::WORDS,
         extended: Self::EXTENDED,
-        extras: Self::WORDS,
-        redist: Self::REDIST_WORDS,
+        ..ONE_BIT
     };
 }
 
@@ -46,28 +57,18 @@ impl Igroupr {
 #[derive(Drop)]
 pub struct Isenabler;
 
-impl Isenabler {
-    pub const BASE: u32 = 0x100;
+impl Register for Isenabler {
+    ghost ROW = { row_of Family.Isenabler };
 
-    pub const EXTENDED: u32 = 0x1200;
+    const BASE: u32 = 0x100;
 
-    pub const WORDS: u32 = 32;
-
-    pub const REDIST_WORDS: u32 = 3;
-
-    pub const DIGIT_BITS: u32 = 1;
-
-    pub const PER_WORD: u32 = 32;
+    const EXTENDED: u32 = 0x1200;
 
     const ROW: Row = Row {
         kind: Kind::Switched(true, Switch::Enable),
-        bits: Self::DIGIT_BITS,
-        per: Self::PER_WORD,
         base: Self::BASE,
-        words: Self::WORDS,
         extended: Self::EXTENDED,
-        extras: Self::WORDS,
-        redist: Self::REDIST_WORDS,
+        ..ONE_BIT
     };
 }
 
@@ -75,28 +76,18 @@ impl Isenabler {
 #[derive(Drop)]
 pub struct Icenabler;
 
-impl Icenabler {
-    pub const BASE: u32 = 0x180;
+impl Register for Icenabler {
+    ghost ROW = { row_of Family.Icenabler };
 
-    pub const EXTENDED: u32 = 0x1400;
+    const BASE: u32 = 0x180;
 
-    pub const WORDS: u32 = 32;
-
-    pub const REDIST_WORDS: u32 = 3;
-
-    pub const DIGIT_BITS: u32 = 1;
-
-    pub const PER_WORD: u32 = 32;
+    const EXTENDED: u32 = 0x1400;
 
     const ROW: Row = Row {
         kind: Kind::Switched(false, Switch::Enable),
-        bits: Self::DIGIT_BITS,
-        per: Self::PER_WORD,
         base: Self::BASE,
-        words: Self::WORDS,
         extended: Self::EXTENDED,
-        extras: Self::WORDS,
-        redist: Self::REDIST_WORDS,
+        ..ONE_BIT
     };
 }
 
@@ -104,28 +95,18 @@ impl Icenabler {
 #[derive(Drop)]
 pub struct Ispendr;
 
-impl Ispendr {
-    pub const BASE: u32 = 0x200;
+impl Register for Ispendr {
+    ghost ROW = { row_of Family.Ispendr };
 
-    pub const EXTENDED: u32 = 0x1600;
+    const BASE: u32 = 0x200;
 
-    pub const WORDS: u32 = 32;
-
-    pub const REDIST_WORDS: u32 = 3;
-
-    pub const DIGIT_BITS: u32 = 1;
-
-    pub const PER_WORD: u32 = 32;
+    const EXTENDED: u32 = 0x1600;
 
     const ROW: Row = Row {
         kind: Kind::Switched(true, Switch::Pending),
-        bits: Self::DIGIT_BITS,
-        per: Self::PER_WORD,
         base: Self::BASE,
-        words: Self::WORDS,
         extended: Self::EXTENDED,
-        extras: Self::WORDS,
-        redist: Self::REDIST_WORDS,
+        ..ONE_BIT
     };
 }
 
@@ -133,28 +114,18 @@ impl Ispendr {
 #[derive(Drop)]
 pub struct Icpendr;
 
-impl Icpendr {
-    pub const BASE: u32 = 0x280;
+impl Register for Icpendr {
+    ghost ROW = { row_of Family.Icpendr };
 
-    pub const EXTENDED: u32 = 0x1800;
+    const BASE: u32 = 0x280;
 
-    pub const WORDS: u32 = 32;
-
-    pub const REDIST_WORDS: u32 = 3;
-
-    pub const DIGIT_BITS: u32 = 1;
-
-    pub const PER_WORD: u32 = 32;
+    const EXTENDED: u32 = 0x1800;
 
     const ROW: Row = Row {
         kind: Kind::Switched(false, Switch::Pending),
-        bits: Self::DIGIT_BITS,
-        per: Self::PER_WORD,
         base: Self::BASE,
-        words: Self::WORDS,
         extended: Self::EXTENDED,
-        extras: Self::WORDS,
-        redist: Self::REDIST_WORDS,
+        ..ONE_BIT
     };
 }
 
@@ -162,28 +133,18 @@ impl Icpendr {
 #[derive(Drop)]
 pub struct Isactiver;
 
-impl Isactiver {
-    pub const BASE: u32 = 0x300;
+impl Register for Isactiver {
+    ghost ROW = { row_of Family.Isactiver };
 
-    pub const EXTENDED: u32 = 0x1A00;
+    const BASE: u32 = 0x300;
 
-    pub const WORDS: u32 = 32;
-
-    pub const REDIST_WORDS: u32 = 3;
-
-    pub const DIGIT_BITS: u32 = 1;
-
-    pub const PER_WORD: u32 = 32;
+    const EXTENDED: u32 = 0x1A00;
 
     const ROW: Row = Row {
         kind: Kind::Switched(true, Switch::Active),
-        bits: Self::DIGIT_BITS,
-        per: Self::PER_WORD,
         base: Self::BASE,
-        words: Self::WORDS,
         extended: Self::EXTENDED,
-        extras: Self::WORDS,
-        redist: Self::REDIST_WORDS,
+        ..ONE_BIT
     };
 }
 
@@ -191,28 +152,18 @@ impl Isactiver {
 #[derive(Drop)]
 pub struct Icactiver;
 
-impl Icactiver {
-    pub const BASE: u32 = 0x380;
+impl Register for Icactiver {
+    ghost ROW = { row_of Family.Icactiver };
 
-    pub const EXTENDED: u32 = 0x1C00;
+    const BASE: u32 = 0x380;
 
-    pub const WORDS: u32 = 32;
-
-    pub const REDIST_WORDS: u32 = 3;
-
-    pub const DIGIT_BITS: u32 = 1;
-
-    pub const PER_WORD: u32 = 32;
+    const EXTENDED: u32 = 0x1C00;
 
     const ROW: Row = Row {
         kind: Kind::Switched(false, Switch::Active),
-        bits: Self::DIGIT_BITS,
-        per: Self::PER_WORD,
         base: Self::BASE,
-        words: Self::WORDS,
         extended: Self::EXTENDED,
-        extras: Self::WORDS,
-        redist: Self::REDIST_WORDS,
+        ..ONE_BIT
     };
 }
 
@@ -220,28 +171,18 @@ impl Icactiver {
 #[derive(Drop)]
 pub struct Igrpmodr;
 
-impl Igrpmodr {
-    pub const BASE: u32 = 0xD00;
+impl Register for Igrpmodr {
+    ghost ROW = { row_of Family.Igrpmodr };
 
-    pub const EXTENDED: u32 = 0x3400;
+    const BASE: u32 = 0xD00;
 
-    pub const WORDS: u32 = 32;
-
-    pub const REDIST_WORDS: u32 = 3;
-
-    pub const DIGIT_BITS: u32 = 1;
-
-    pub const PER_WORD: u32 = 32;
+    const EXTENDED: u32 = 0x3400;
 
     const ROW: Row = Row {
         kind: Kind::Guarded(Guard::Modifier),
-        bits: Self::DIGIT_BITS,
-        per: Self::PER_WORD,
         base: Self::BASE,
-        words: Self::WORDS,
         extended: Self::EXTENDED,
-        extras: Self::WORDS,
-        redist: Self::REDIST_WORDS,
+        ..ONE_BIT
     };
 }
 
@@ -249,33 +190,26 @@ impl Igrpmodr {
 #[derive(Drop)]
 pub struct Icfgr;
 
-impl Icfgr {
-    pub const BASE: u32 = 0xC00;
+impl Register for Icfgr {
+    ghost ROW = { row_of Family.Icfgr };
 
-    pub const EXTENDED: u32 = 0x3000;
+    const BASE: u32 = 0xC00;
 
-    pub const WORDS: u32 = 64;
-
-    pub const REDIST_WORDS: u32 = 6;
-
-    pub const DIGIT_BITS: u32 = 2;
-
-    pub const PER_WORD: u32 = 16;
+    const EXTENDED: u32 = 0x3000;
 
     const ROW: Row = Row {
         kind: Kind::Trigger,
-        bits: Self::DIGIT_BITS,
-        per: Self::PER_WORD,
+        bits: 2,
+        per: 16,
         base: Self::BASE,
-        words: Self::WORDS,
+        words: 64,
         extended: Self::EXTENDED,
-        extras: Self::WORDS,
-        redist: Self::REDIST_WORDS,
+        extras: 64,
+        redist: 6,
     };
 }
 
 // A family's row of document 01's table.
-#[tactic(auto, unfolding(meaning::specs::Registers::row_of))]
 pub fn row_of(f: Family) -> Row
     ensures { result ≡ row_of f }
 {

@@ -8,7 +8,8 @@ ghost use Rattle.register_list.specs.declared.Entry.TheVariants as entry;
 ghost use Rattle.register_list.specs.Entry.{entry_of, extended_from, entry_at, word_at, place_in};
 
 use register_families::{
-    Icactiver, Icenabler, Icfgr, Icpendr, Igroupr, Igrpmodr, Isactiver, Isenabler, Ispendr, row_of,
+    Icactiver, Icenabler, Icfgr, Icpendr, Igroupr, Igrpmodr, Isactiver, Isenabler, Ispendr,
+    Register, row_of,
 };
 use register_map::code_at;
 use types::{Decoded, Family, Frame, Message, Place, Refusal};
