@@ -42,6 +42,7 @@ const SETSPI_SR: Option<Entry> = Some(Entry::Message(Message::SetspiSr));
 
 const CLRSPI_SR: Option<Entry> = Some(Entry::Message(Message::ClrspiSr));
 
+// A static, since a function that read a constant would have its 1,024 entries as locals.
 static MAP: [Option<Entry>; 1024] = [
     None, // 0x000: none
     TYPER, // 0x004: TYPER
