@@ -1,10 +1,11 @@
 -- What an access at a place asks of the engine, from well-formed tables.
 --   target_room       the tables, and the presence words of the target's frame
 --   target_numbered   the SGIs among its interrupts
---   frame_bank        the bank of an event
+--   records_lent, words_lent    the lengths of a bank
 use Rattle.std.specs.Prelude.{Ok}
 use mathlib.Core.Path.{◌≡◌, sym, ap, subst, ◌∙◌}
 use mathlib.Core.Bool.{true}
+use lib.ListN.{length}
 use Rattle.types.specs.declared.Frame.{Frame}
 use Rattle.types.specs.declared.Frame.TheVariants.{Dist, Redist}
 use Rattle.types.specs.declared.Shape.{Shape}
@@ -12,11 +13,11 @@ use Rattle.types.specs.declared.Access.{Access}
 use Rattle.types.specs.declared.Place.{Place}
 use Rattle.types.specs.declared.Target.{Target}
 use Rattle.types.specs.declared.Target.TheVariants.{Digits, Typer, Message}
-use Rattle.meaning.specs.Layout.{Tables, records_of, presence_of, presence_words, well_formed}
+use Rattle.meaning.specs.Layout.{Tables, records_of, presence_of, slots, presence_words, well_formed}
 use Rattle.meaning.specs.Registers.{place_of, target_of}
 use Rattle.meaning.proofs.After.{well_shape, well_lengths, records_length, presence_length}
 use Rattle.register_decoder.proofs.Windows.{Aimed, placed_aimed}
-use Rattle.engine.specs.Bank.{Bank}
+use Rattle.table_spans.specs.declared.Bank.{Bank}
 use Rattle.engine.specs.Target.{frame_at, FitsAt, Room, NumberedAt}
 use Rattle.engine.proofs.Targets.{interrupts_of}
 
@@ -36,13 +37,11 @@ numbered r Typer h = tt
 numbered r (Message g) h = tt
 
 module _ (s : Shape) (t : Tables) (well : well_formed s t ≡ true) where
-  pub frame_bank : (f : Frame) → Bank s f (records_of f t) (presence_of f t)
-  frame_bank f =
-      record {
-        shape = well_shape s t well;
-        slots_lent = records_length t (well_lengths s t well) f;
-        words_lent = presence_length t (well_lengths s t well) f;
-      }
+  pub records_lent : (f : Frame) → length (records_of f t) ≡ slots f
+  records_lent f = records_length t (well_lengths s t well) f
+
+  pub words_lent : (f : Frame) → length (presence_of f t) ≡ presence_words f
+  words_lent f = presence_length t (well_lengths s t well) f
 
   module _ (a : Access) (p : Place) (e : place_of a ≡ Ok p) where
     pub target_frame : frame_at (target_of p) ≡ a.frame
@@ -54,12 +53,11 @@ module _ (s : Shape) (t : Tables) (well : well_formed s t ≡ true) where
     pub target_numbered : NumberedAt (target_of p) (interrupts_of (target_of p))
     target_numbered = numbered a.frame (target_of p) (placed_aimed a p e)
 
-    pub target_room : (x : Target) → x ≡ target_of p → (f : Frame) → a.frame ≡ f → Room s x t.dist t.redist (presence_of f t)
-    target_room x aim f here =
+    pub target_room : (x : Target) → x ≡ target_of p → (b : Bank) → b.frame ≡ a.frame → Room x b t.dist t.redist
+    target_room x aim b here =
         record {
-          shape = well_shape s t well;
-          dist_lent = records_length t (well_lengths s t well) Dist;
-          redist_lent = records_length t (well_lengths s t well) Redist;
-          words_lent = presence_length t (well_lengths s t well) f ∙ ap presence_words (sym (ap frame_at aim ∙ (target_frame ∙ here)));
+          dist_lent = records_lent Dist;
+          redist_lent = records_lent Redist;
+          frame = here ∙ sym (ap frame_at aim ∙ target_frame);
           fits = subst FitsAt (sym aim) target_fits;
         }

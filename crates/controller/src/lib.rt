@@ -20,6 +20,7 @@ use engine::event::happen;
 use engine::reset::clear;
 use register_decoder::{place_of, target_of};
 use table_limits::well_formed;
+use table_spans::Bank;
 use types::{Access, Answer, Decoded, Event, Frame, Refusal, Shape};
 
 // The refusal of an access that was decoded to none.
@@ -33,6 +34,7 @@ fn refused(found: Decoded) -> Answer
 }
 
 // The frame that keeps an INTID: SGIs, PPIs and extended PPIs are the Redistributor's.
+#[tactic(auto, unfolding(meaning::specs::Interrupt::frame_of, meaning::specs::Interrupt::between))]
 fn frame_of(m: u32) -> Frame
     ensures { result ≡ frame_of m }
 {
@@ -74,10 +76,16 @@ pub fn access(
     };
     let target = target_of(place);
     let frame = request.frame;
-    match frame {
-        Frame::Dist => serve(dist, redist, dist_presence, shape, request, target),
-        Frame::Redist => serve(dist, redist, redist_presence, shape, request, target),
-    }
+    let presence = match frame {
+        Frame::Dist => dist_presence,
+        Frame::Redist => redist_presence,
+    };
+    let bank = Bank {
+        frame,
+        shape,
+        presence,
+    };
+    serve(dist, redist, bank, request, target)
 }
 
 // An event on an INTID: a wire goes to a level, a side activates or deactivates.
@@ -107,10 +115,16 @@ pub fn event(
         return Err(Refusal::Shape);
     }
     let frame = frame_of(intid);
-    match frame {
-        Frame::Dist => happen(dist, dist_presence, shape, Frame::Dist, intid, event),
-        Frame::Redist => happen(redist, redist_presence, shape, Frame::Redist, intid, event),
-    }
+    let (records, presence) = match frame {
+        Frame::Dist => (dist, dist_presence),
+        Frame::Redist => (redist, redist_presence),
+    };
+    let bank = Bank {
+        frame,
+        shape,
+        presence,
+    };
+    happen(records, bank, intid, event)
 }
 
 // All record bytes become 0; presence stays.

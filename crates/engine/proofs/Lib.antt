@@ -3,4 +3,3 @@ pub mod Words
 pub mod Ones
 pub mod Targets
 pub mod Uses
-pub mod Rooms

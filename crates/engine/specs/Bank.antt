@@ -1,6 +1,5 @@
 -- What is done in a bank, slot by slot: the bank's own terms, in which no interrupt has a name.
-use Rattle.std.specs.Prelude.{◌≡◌, true, cond, List, ◌++◌, ℕ, ◌-◌, ◌%◌, eqb, ltb, length, get_or, take, drop, set, Err}
-use Rattle.types.specs.declared.Frame.{Frame}
+use Rattle.std.specs.Prelude.{◌≡◌, cond, List, ◌++◌, ℕ, ◌-◌, ◌%◌, eqb, ltb, get_or, take, drop, set, Err}
 use Rattle.types.specs.declared.Side.{Side}
 use Rattle.types.specs.declared.Shape.{Shape}
 use Rattle.types.specs.declared.Message.{Message}
@@ -10,19 +9,12 @@ use Rattle.types.specs.declared.Refusal.TheVariants as refusal
 use Rattle.meaning.specs.Answers.{Answer}
 use Rattle.meaning.specs.Interrupt.{Interrupt}
 use Rattle.meaning.specs.Cell.{Cell, decode, encode}
-use Rattle.meaning.specs.Layout.{slots, presence_words, shape_fits}
 use Rattle.meaning.specs.Rule.{event_answer, is_done, happened}
 use Rattle.record_messages.specs.Delivered.{delivered}
 use Rattle.table_words.specs.declared.Word.{Word}
 use Rattle.table_words.specs.Part.{gathered, stored}
 use Rattle.table_spans.specs.declared.Span.{Span}
 use Rattle.table_spans.specs.Span.{span_of}
-
--- the records and presence words of a frame, of a shape that fits
-pub record Bank (s : Shape) (f : Frame) (records presence : List ℕ) : Type 0 where
-  pub shape : shape_fits s ≡ true
-  pub slots_lent : length records ≡ slots f
-  pub words_lent : length presence ≡ presence_words f
 
 -- the part of the records that a span has, and the records with that part put back as g leaves it
 abbrev pub part : Span → List ℕ → List ℕ

@@ -1,5 +1,5 @@
 -- A decoded access in the banks: what a read of its target shows, and the records of both frames after a write to it.
-use Rattle.std.specs.Prelude.{◌≡◌, true, List, [], ℕ, ◌%◌, length, Ok}
+use Rattle.std.specs.Prelude.{◌≡◌, List, [], ℕ, ◌%◌, length, Ok}
 use Rattle.types.specs.declared.Frame.{Frame}
 use Rattle.types.specs.declared.Frame.TheVariants.{Dist, Redist}
 use Rattle.types.specs.declared.Side.{Side}
@@ -10,11 +10,12 @@ use Rattle.types.specs.declared.Target.{Target}
 use Rattle.types.specs.declared.Target.TheVariants.{Digits, Typer, Message}
 use Rattle.meaning.specs.Answers.{Answer}
 use Rattle.meaning.specs.Interrupt.{Interrupt}
-use Rattle.meaning.specs.Layout.{lent, records_of, slots, presence_words, shape_fits}
+use Rattle.meaning.specs.Layout.{lent, records_of, slots}
 use Rattle.meaning.specs.Registers.{written_value}
 use Rattle.meaning.specs.Step.{typer}
 use Rattle.register_families.specs.Fits.{Fits}
 use Rattle.table_words.specs.Part.{Numbered}
+use Rattle.table_spans.specs.declared.Bank.{Bank}
 use Rattle.table_spans.specs.Span.{span_of}
 use Rattle.engine.specs.Bank.{window_span, read_in, written_in, sent_in}
 
@@ -29,12 +30,11 @@ FitsAt (Digits w) = Fits w
 FitsAt Typer = Unit
 FitsAt (Message g) = Unit
 
--- the record tables whole, and the presence words of the target's frame
-pub record Room (s : Shape) (x : Target) (dist redist presence : List ℕ) : Type 0 where
-  pub shape : shape_fits s ≡ true
+-- the record tables whole, and the bank of the target's frame
+pub record Room (x : Target) (b : Bank) (dist redist : List ℕ) : Type 0 where
   pub dist_lent : length dist ≡ slots Dist
   pub redist_lent : length redist ≡ slots Redist
-  pub words_lent : length presence ≡ presence_words (frame_at x)
+  pub frame : b.frame ≡ frame_at x
   pub fits : FitsAt x
 
 -- `at` names the window's interrupts

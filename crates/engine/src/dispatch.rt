@@ -7,57 +7,46 @@ ghost use Rattle.engine.specs.Target.{Room, NumberedAt, read_at, Written, Served
 use crate::message::send;
 use crate::typer::typer_of;
 use crate::word::{read_word, write_word};
-use types::{Access, Answer, Frame, Shape, Side, Target, Way};
+use table_spans::Bank;
+use types::{Access, Answer, Frame, Side, Target, Way};
 
-// What a read shows. `presence` are the presence words of the target's frame.
-fn read<'a>(
-    dist: &'a [u8],
-    redist: &'a [u8],
-    presence: &[u32],
-    shape: Shape,
-    side: Side,
-    target: Target,
-) -> u32
-    requires { Room shape target dist.now redist.now presence.now }
+// What a read shows. The bank is that of the target's frame.
+#[tactic(auto, unfolding(crate::specs::Target::read_at))]
+fn read<'a>(dist: &'a [u8], redist: &'a [u8], bank: Bank, side: Side, target: Target) -> u32
+    requires { Room target bank dist.now redist.now }
     ensures { (at : ℕ → Interrupt) → NumberedAt target at
-        → result ≡ read_at shape at side target presence.now dist.now redist.now }
+        → result ≡ read_at bank.entry.shape at side target bank.entry.presence.now dist.now redist.now }
 {
     match target {
-        Target::Digits(window) => read_word(dist, redist, presence, shape, side, window),
-        Target::Typer => typer_of(shape),
+        Target::Digits(window) => read_word(dist, redist, bank, side, window),
+        Target::Typer => typer_of(bank.shape),
         Target::Message(_) => 0,
     }
 }
 
 // What a write leaves.
-fn write(
-    dist: &mut [u8],
-    redist: &mut [u8],
-    presence: &[u32],
-    shape: Shape,
-    side: Side,
-    target: Target,
-    value: u32,
-)
-    requires { Room shape target dist.old redist.old presence.now }
+#[tactic(auto, unfolding(crate::specs::Target::written_at))]
+fn write(dist: &mut [u8], redist: &mut [u8], bank: Bank, side: Side, target: Target, value: u32)
+    requires { Room target bank dist.old redist.old }
     ensures { (at : ℕ → Interrupt) (i : Interrupt) → NumberedAt target at → sgi i ≡ false
-        → Written shape side target value presence.now dist.old redist.old dist.new
+        → Written bank.entry.shape side target value bank.entry.presence.now dist.old redist.old dist.new
         redist.new at i }
 {
     match target {
         Target::Digits(window) => {
-            let frame = window.frame;
+            let frame = bank.frame;
             match frame {
-                Frame::Dist => write_word(dist, presence, shape, side, window, value),
-                Frame::Redist => write_word(redist, presence, shape, side, window, value),
+                Frame::Dist => write_word(dist, bank, side, window, value),
+                Frame::Redist => write_word(redist, bank, side, window, value),
             }
         }
         Target::Typer => {}
-        Target::Message(message) => send(dist, presence, shape, side, message, value),
+        Target::Message(message) => send(dist, bank, side, message, value),
     }
 }
 
 // With width 2 the upper half of the value is ignored.
+#[tactic(auto, unfolding(meaning::specs::Registers::written_value))]
 fn value_of(request: Access) -> u32
     ensures { result ≡ written_value request }
 {
@@ -72,23 +61,22 @@ fn value_of(request: Access) -> u32
 pub fn serve(
     dist: &mut [u8],
     redist: &mut [u8],
-    presence: &[u32],
-    shape: Shape,
+    bank: Bank,
     request: Access,
     target: Target,
 ) -> Answer
-    requires { Room shape target dist.old redist.old presence.now }
+    requires { Room target bank dist.old redist.old }
     ensures { (at : ℕ → Interrupt) (i : Interrupt) → NumberedAt target at → sgi i ≡ false
-        → Served shape request target presence.now dist.old redist.old result dist.new
+        → Served bank.entry.shape request target bank.entry.presence.now dist.old redist.old result dist.new
         redist.new at i }
 {
     let side = request.side;
     let way = request.way;
     match way {
-        Way::Read => Ok(read(dist, redist, presence, shape, side, target)),
+        Way::Read => Ok(read(dist, redist, bank, side, target)),
         Way::Write => {
             let value = value_of(request);
-            write(dist, redist, presence, shape, side, target, value);
+            write(dist, redist, bank, side, target, value);
             Ok(0)
         }
     }

@@ -3,49 +3,37 @@ ghost use Rattle.std.specs.Prelude.{◌≡◌, ◌<◌, ltb, length, get_or, set
 ghost use Rattle.types.specs.declared.Shape.{Shape as Form};
 ghost use Rattle.meaning.specs.Interrupt.{Interrupt, sgi};
 ghost use Rattle.meaning.specs.Cell.{decode, encode};
+ghost use Rattle.meaning.specs.Layout.{slots};
 ghost use Rattle.meaning.specs.Rule.{event_answer};
-ghost use Rattle.table_spans.specs.Span.{span_of};
-ghost use Rattle.engine.specs.Bank.{Bank, eventful, Happened};
+ghost use Rattle.table_spans.specs.Bank.{bank_span};
+ghost use Rattle.engine.specs.Bank.{eventful, Happened};
 
 use record_events::{answer_to, happened};
-use table_spans::span_of;
-use types::{Answer, Event, Frame, Refusal, Shape};
+use table_spans::{Bank, Slot};
+use types::{Answer, Event, Refusal};
 
 // The event at a slot; a refused one stores nothing.
-fn happen_at(records: &mut [u8], at: usize, implemented: bool, soft: bool, event: Event) -> Answer
-    requires { at < length records.old }
+#[tactic(auto, using(crate::proofs::Uses::refused_same), unfolding(crate::specs::Bank::eventful))]
+fn happen_at(records: &mut [u8], slot: Slot, soft: bool, event: Event) -> Answer
+    requires { slot.at < length records.old }
     ensures { (s : Form) (i : Interrupt) → sgi i ≡ soft
-        → (result ≡ event_answer s event i (decode implemented (get_or records.old at 0)))
+        → (result ≡ event_answer s event i (decode slot.implemented (get_or records.old slot.at 0)))
         × (records.new
-        ≡ set records.old at (encode (eventful s event i (decode implemented (get_or records.old at 0))))) }
+        ≡ set records.old slot.at (encode (eventful s event i (decode slot.implemented (get_or records.old slot.at 0))))) }
 {
+    let Slot { at, implemented } = slot;
     let r = records[at];
-    let answer = answer_to(event, implemented, soft, r);
-    let Ok(_) = answer else {
-        return answer;
-    };
+    let value = answer_to(event, implemented, soft, r)?;
     records[at] = happened(event, soft, r);
-    answer
+    Ok(value)
 }
 
 // The event on the INTID m of the bank; refusal 7 where it has no such interrupt.
-pub fn happen(
-    records: &mut [u8],
-    presence: &[u32],
-    shape: Shape,
-    frame: Frame,
-    m: u32,
-    event: Event,
-) -> Answer
-    requires { Bank shape frame records.old presence.now }
+pub fn happen(records: &mut [u8], bank: Bank, m: u32, event: Event) -> Answer
+    requires { length records.old ≡ slots bank.frame }
     ensures { (i : Interrupt) → sgi i ≡ ltb m 16
-        → Happened shape event i (span_of shape presence.now frame m 1) records.old result records.new }
+        → Happened bank.entry.shape event i (bank_span bank.entry m 1) records.old result records.new }
 {
-    let span = span_of(presence, shape, frame, m, 1);
-    let start = span.start;
-    let implemented = span.implemented % 2 == 1;
-    if start < span.end {
-        return happen_at(records, start, implemented, m < 16, event);
-    }
-    Err(Refusal::Intid)
+    let slot = bank.slot_of(m).ok_or(Refusal::Intid)?;
+    happen_at(records, slot, m < 16, event)
 }

@@ -1,34 +1,25 @@
 // A write to a message register, which names one SPI or extended SPI of the Distributor's bank.
-ghost use Rattle.std.specs.Prelude.{◌≡◌, false, ◌%◌};
-ghost use Rattle.types.specs.declared.Frame.TheVariants.{Dist};
+ghost use Rattle.std.specs.Prelude.{◌≡◌, false, ◌%◌, length};
 ghost use Rattle.meaning.specs.Interrupt.{Interrupt, sgi};
-ghost use Rattle.table_spans.specs.Span.{span_of};
-ghost use Rattle.engine.specs.Bank.{Bank, sent_in};
+ghost use Rattle.meaning.specs.Layout.{slots};
+ghost use Rattle.table_spans.specs.Bank.{bank_span};
+ghost use Rattle.engine.specs.Bank.{sent_in};
 
 use record_messages::deliver;
-use table_spans::span_of;
-use types::{Frame, Message, Shape, Side};
+use table_spans::{Bank, Slot};
+use types::{Message, Side};
 
-pub fn send(
-    records: &mut [u8],
-    presence: &[u32],
-    shape: Shape,
-    side: Side,
-    message: Message,
-    value: u32,
-)
-    requires { Bank shape Dist records.old presence.now }
+#[tactic(auto, using(crate::proofs::Uses::at_slot, crate::proofs::Uses::at_none), unfolding(crate::specs::Bank::sent_in))]
+pub fn send(records: &mut [u8], bank: Bank, side: Side, message: Message, value: u32)
+    requires { length records.old ≡ slots bank.frame }
     ensures { (i : Interrupt) → sgi i ≡ false
         → records.new
-        ≡ sent_in shape side message i (span_of shape presence.now Dist (value % 8192) 1) records.old }
+        ≡ sent_in bank.entry.shape side message i (bank_span bank.entry (value % 8192) 1) records.old }
 {
-    if !shape.mbis {
+    if !bank.shape.mbis {
         return;
     }
-    let span = span_of(presence, shape, Frame::Dist, value % 8192, 1);
-    let start = span.start;
-    let implemented = span.implemented % 2 == 1;
-    if start < span.end {
-        records[start] = deliver(side, message, implemented, records[start]);
+    if let Some(Slot { at, implemented }) = bank.slot_of(value % 8192) {
+        records[at] = deliver(side, message, implemented, records[at]);
     }
 }

@@ -2,6 +2,8 @@
 -- missing. This is all that the engine's laws ask of a bank.
 --   spanned    of every span that is asked for
 --   bounded    its bounds, whatever the tables
+--   bounded_at    the same at a range
+--   first_inside    its first slot is the bank's
 --   inside     the numbers at a range are small enough
 use mathlib.Core.Path.{◌≡◌, refl, sym, ap, ap₂, subst, ◌∙◌}
 use mathlib.Core.Bool.{Bool, true, false, cond, ◌&&◌}
@@ -9,10 +11,10 @@ use mathlib.Core.List.{List, []}
 use Prim.Native.Nat.{ℕ, ◌+◌, ◌-◌, ◌/◌, ◌%◌, ◌^◌, ◌≤◌, ◌<◌, min}
 use native.Mathlib.Omega.{arith}
 use native.Mathlib.Decide.{dec_lt}
-use lib.Dec.{eqb}
+use lib.Dec.{eqb, ltb}
 use lib.ListN.{length, get_or}
 use lib.Pow.{shr-shr}
-use borrow.Author.Tests.{le-leb, lt-ltb}
+use borrow.Author.Tests.{le-leb, lt-ltb, ltb-true}
 use Rattle.lists.specs.Word.{bit_at}
 use Rattle.lists.proofs.Bools.{both, clash}
 use Rattle.types.specs.declared.Frame.{Frame}
@@ -24,7 +26,9 @@ use Rattle.meaning.specs.Layout.{Home, home_of, interrupt_at, present_at, implem
 use Rattle.meaning.proofs.Homes.{between_low, between_high, home_back}
 use Rattle.table_spans.specs.declared.Range.{Range}
 use Rattle.table_spans.specs.declared.Span.{Span}
-use Rattle.table_spans.specs.Span.{Inside, range_of, nothing, span_at, span_in, span_of}
+use Rattle.table_spans.specs.declared.Slot.{Slot}
+use Rattle.std.specs.Prelude.{Some, None, IfSome}
+use Rattle.table_spans.specs.Span.{Inside, range_of, nothing, span_at, span_in, span_of, Bounded, first_of}
 use Rattle.table_spans.proofs.Ranges.{Kept, Ranged, ranged}
 
 pub record Spanned (s : Shape) (t : Tables) (f : Frame) (m n : ℕ) (p : Span) : Type 0 where
@@ -123,12 +127,7 @@ pub spanned : (s : Shape) (t : Tables) → shape_fits s ≡ true → (f : Frame)
 unfolding span_of
 spanned s t fit f m n block = in_or_out s t f m n (range_of s f m) (ranged s fit f m) block
 
--- the bounds of a span, whatever the presence words
-pub record Bounded (f : Frame) (n : ℕ) (p : Span) : Type 0 where
-  pub ordered : p.start ≤ p.end
-  pub inside : p.end ≤ slots f
-  pub short : p.end - p.start ≤ n
-
+-- whatever the presence words
 pub bounded : (s : Shape) (ps : List ℕ) → shape_fits s ≡ true → (f : Frame) (m n : ℕ) → m % 32 + n ≤ 32 → Bounded f n (span_of s ps f m n)
 bounded s ps fit f m n block = by f
   where
@@ -138,6 +137,24 @@ bounded s ps fit f m n block = by f
     by : (f : Frame) → Bounded f n (span_of s ps f m n)
     by Dist = let h = spanned s with_words fit Dist m n block in record { ordered = h.ordered; inside = h.inside; short = h.short }
     by Redist = let h = spanned s with_words fit Redist m n block in record { ordered = h.ordered; inside = h.inside; short = h.short }
+
+-- at the range of m
+pub bounded_at : (s : Shape) (ps : List ℕ) → shape_fits s ≡ true → (f : Frame) (m n : ℕ) → m % 32 + n ≤ 32 → (r : Range)
+    → r ≡ range_of s f m → between r.low r.high m ≡ true → Bounded f n (span_at ps r (m - r.low) n)
+unfolding span_of span_in
+bounded_at s ps fit f m n block r e t =
+    subst (λ (b : Bool). Bounded f n (cond b (span_at ps r (m - r.low) n) nothing)) t
+    (subst (λ (z : Range). Bounded f n (span_in ps z m n)) (sym e) (bounded s ps fit f m n block))
+
+-- its first slot
+pub first_inside : (f : Frame) (n : ℕ) (p : Span) → Bounded f n p → IfSome (first_of p) (λ k. k.at < slots f)
+unfolding first_of
+first_inside f n p h = by (ltb p.start p.end) refl
+  where
+    by : (b : Bool) → ltb p.start p.end ≡ b
+        → IfSome {T = Slot} (cond b (Some (record { at = p.start; implemented = eqb (p.implemented % 2) 1 })) None) (λ k. k.at < slots f)
+    by true e = let l = ltb-true p.start p.end e in let i = h.inside in omega arith
+    by false e = tt
 
 -- what `span_at` asks
 pub inside : (s : Shape) (ps : List ℕ) → shape_fits s ≡ true → (f : Frame) → length ps ≡ presence_words f → (m n : ℕ) → n ≤ 32 → (r : Range)

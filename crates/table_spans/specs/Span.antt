@@ -1,11 +1,13 @@
 -- Where a bank keeps the n INTIDs from m on, which lie in one presence word: those of them that the shape has.
-use Rattle.std.specs.Prelude.{cond, List, ℕ, ◌+◌, ◌*◌, ◌-◌, ◌/◌, ◌%◌, ◌^◌, ◌≤◌, ◌<◌, min, ltb, length, get_or}
+use Rattle.std.specs.Prelude.{cond, List, Option, Some, None, ℕ, ◌+◌, ◌*◌, ◌-◌, ◌/◌, ◌%◌, ◌^◌, ◌≤◌, ◌<◌, min, eqb, ltb, length, get_or}
 use Rattle.types.specs.declared.Frame.{Frame}
 use Rattle.types.specs.declared.Frame.TheVariants.{Dist, Redist}
 use Rattle.types.specs.declared.Shape.{Shape}
 use Rattle.meaning.specs.Interrupt.{between}
+use Rattle.meaning.specs.Layout.{slots}
 use Rattle.table_spans.specs.declared.Range.{Range}
 use Rattle.table_spans.specs.declared.Span.{Span}
+use Rattle.table_spans.specs.declared.Slot.{Slot}
 
 abbrev range : ℕ → ℕ → ℕ → ℕ → Range
 range lo hi k w = record { low = lo; high = hi; slot = k; word = w }
@@ -43,3 +45,13 @@ span_in ps r m n = cond (between r.low r.high m) (span_at ps r (m - r.low) n) no
 -- THE SPAN
 unfoldable pub span_of : Shape → List ℕ → Frame → ℕ → ℕ → Span
 span_of s ps f m n = span_in ps (range_of s f m) m n
+
+-- it lies in the bank's slots, and has no more than n
+pub record Bounded (f : Frame) (n : ℕ) (p : Span) : Type 0 where
+  pub ordered : p.start ≤ p.end
+  pub inside : p.end ≤ slots f
+  pub short : p.end - p.start ≤ n
+
+-- its first slot, if it has one
+unfoldable pub first_of : Span → Option Slot
+first_of p = cond (ltb p.start p.end) (Some (record { at = p.start; implemented = eqb (p.implemented % 2) 1 })) None
