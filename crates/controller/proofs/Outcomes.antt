@@ -33,7 +33,9 @@ use Rattle.meaning.specs.Rule.{aims}
 use Rattle.meaning.specs.Step.{read, access_answer, answer, tables_where, stepped}
 use Rattle.meaning.proofs.Choices.{cond_true, cond_false}
 use Rattle.meaning.proofs.After.{well_shape, well_lengths}
+use Rattle.table_spans.specs.declared.Bank.{Bank}
 use Rattle.table_spans.specs.Span.{span_of}
+use Rattle.table_spans.specs.Bank.{bank_span}
 use Rattle.table_spans.proofs.Spanned.{Spanned, spanned}
 use Rattle.engine.specs.Bank.{Happened, zeroed}
 use Rattle.engine.specs.Target.{frame_at, NumberedAt, read_at, in_bank, written_at, Served}
@@ -208,7 +210,7 @@ module _ (s : Shape) (t : Tables) (well : well_formed s t ≡ true) where
       by_deed (happens e m) (happen e m) x _ _ refl (answered e m Redist here x ys h) (apart e m Redist here Dist (λ k. refl))
       (meant e m Redist here x ys h)
 
-  pub event_happened : (e : Event) (m : ℕ) (f : Frame) → frame_of m ≡ f → (x : Answer) (ys : List ℕ)
+  event_happened : (e : Event) (m : ℕ) (f : Frame) → frame_of m ≡ f → (x : Answer) (ys : List ℕ)
       → ((i : Interrupt) → sgi i ≡ ltb m 16 → Happened s e i (span_of s (presence_of f t) f m 1) (records_of f t) x ys)
       → record {
         answered = x;
@@ -216,6 +218,22 @@ module _ (s : Shape) (t : Tables) (well : well_formed s t ≡ true) where
       }
       ≡ stepped s (happens e m) t
   event_happened e m f at x ys h = event_in e m f (named_in m f at) x ys (h (interrupt f m) (sgi_below m f at))
+
+  -- the same of what was done in a bank b
+  pub event_banked : (e : Event) (m : ℕ) (f : Frame) → frame_of m ≡ f → (b : Bank) → b.frame ≡ f → b.shape ≡ s
+      → b.presence.now ≡ presence_of f t → (x : Answer) (ys : List ℕ)
+      → ((i : Interrupt) → sgi i ≡ ltb m 16 → Happened b.shape e i (bank_span b m 1) (records_of f t) x ys)
+      → record {
+        answered = x;
+        tables = lent (in_bank f Dist (λ z. ys) t.dist) (in_bank f Redist (λ z. ys) t.redist) t.dist_presence t.redist_presence;
+      }
+      ≡ stepped s (happens e m) t
+  event_banked e m f at b frame shape words x ys h =
+      event_happened e m f at x ys
+      (λ i g.
+      subst (λ (k : Frame). Happened s e i (span_of s (presence_of f t) k m 1) (records_of f t) x ys) frame
+      (subst (λ (ps : List ℕ). Happened s e i (span_of s ps b.frame m 1) (records_of f t) x ys) words
+      (subst (λ (o : Shape). Happened o e i (span_of o b.presence.now b.frame m 1) (records_of f t) x ys) shape (h i g))))
 
   -- RESET
   pub all_cleared : (dist redist : List ℕ) → dist ≡ map_from 0 zeroed t.dist → redist ≡ map_from 0 zeroed t.redist

@@ -1,7 +1,7 @@
 -- What an access at a place asks of the engine, from well-formed tables.
---   target_room       the tables, and the presence words of the target's frame
+--   target_room       the tables, and the bank of the target's frame
 --   target_numbered   the SGIs among its interrupts
---   records_lent, words_lent    the lengths of a bank
+--   records_lent      the lengths of the record tables
 use Rattle.std.specs.Prelude.{Ok}
 use mathlib.Core.Path.{◌≡◌, sym, ap, subst, ◌∙◌}
 use mathlib.Core.Bool.{true}
@@ -13,9 +13,9 @@ use Rattle.types.specs.declared.Access.{Access}
 use Rattle.types.specs.declared.Place.{Place}
 use Rattle.types.specs.declared.Target.{Target}
 use Rattle.types.specs.declared.Target.TheVariants.{Digits, Typer, Message}
-use Rattle.meaning.specs.Layout.{Tables, records_of, presence_of, slots, presence_words, well_formed}
+use Rattle.meaning.specs.Layout.{Tables, records_of, slots, well_formed}
 use Rattle.meaning.specs.Registers.{place_of, target_of}
-use Rattle.meaning.proofs.After.{well_shape, well_lengths, records_length, presence_length}
+use Rattle.meaning.proofs.After.{well_lengths, records_length}
 use Rattle.register_decoder.proofs.Windows.{Aimed, placed_aimed}
 use Rattle.table_spans.specs.declared.Bank.{Bank}
 use Rattle.engine.specs.Target.{frame_at, FitsAt, Room, NumberedAt}
@@ -37,11 +37,8 @@ numbered r Typer h = tt
 numbered r (Message g) h = tt
 
 module _ (s : Shape) (t : Tables) (well : well_formed s t ≡ true) where
-  pub records_lent : (f : Frame) → length (records_of f t) ≡ slots f
+  records_lent : (f : Frame) → length (records_of f t) ≡ slots f
   records_lent f = records_length t (well_lengths s t well) f
-
-  pub words_lent : (f : Frame) → length (presence_of f t) ≡ presence_words f
-  words_lent f = presence_length t (well_lengths s t well) f
 
   module _ (a : Access) (p : Place) (e : place_of a ≡ Ok p) where
     pub target_frame : frame_at (target_of p) ≡ a.frame

@@ -8,10 +8,10 @@
 //   redist_presence  3 presence words                           lent for reading
 #![tactic(auto)]
 
-ghost use Rattle.std.specs.Prelude.{◌≡◌, Err};
-ghost use Rattle.types.specs.declared.Refusal.{Refusal as Why};
+ghost use Rattle.std.specs.Prelude.{◌≡◌, true, ℕ, List, length};
+ghost use Rattle.types.specs.declared.Frame.TheVariants.{Dist, Redist};
 ghost use Rattle.meaning.specs.Interrupt.{frame_of};
-ghost use Rattle.meaning.specs.Layout.{lent};
+ghost use Rattle.meaning.specs.Layout.{lent, presence_of, shape_fits, presence_words};
 ghost use Rattle.meaning.specs.Rule as step;
 ghost use Rattle.meaning.specs.Step.{stepped};
 
@@ -21,27 +21,41 @@ use engine::reset::clear;
 use register_decoder::{place_of, target_of};
 use table_limits::well_formed;
 use table_spans::Bank;
-use types::{Access, Answer, Decoded, Event, Frame, Refusal, Shape};
-
-// The refusal of an access that was decoded to none.
-fn refused(found: Decoded) -> Answer
-    ensures { (r : Why) → found ≡ Err r → result ≡ Err r }
-{
-    match found {
-        Ok(_) => Err(Refusal::Unlisted),
-        Err(r) => Err(r),
-    }
-}
+use types::{Access, Answer, Event, Frame, Refusal, Shape};
 
 // The frame that keeps an INTID: SGIs, PPIs and extended PPIs are the Redistributor's.
 #[tactic(auto, unfolding(meaning::specs::Interrupt::frame_of, meaning::specs::Interrupt::between))]
 fn frame_of(m: u32) -> Frame
     ensures { result ≡ frame_of m }
 {
-    if (m < 32) | ((1056 <= m) & (m < 1120)) {
-        Frame::Redist
-    } else {
-        Frame::Dist
+    match m {
+        0..=31 | 1056..=1119 => Frame::Redist,
+        _ => Frame::Dist,
+    }
+}
+
+// The bank of a frame.
+fn bank_of<'a>(
+    frame: Frame,
+    shape: Shape,
+    dist_presence: &'a [u32],
+    redist_presence: &'a [u32],
+) -> Bank<'a>
+    requires shape { shape_fits shape ≡ true }
+    requires dist_words { length dist_presence.now ≡ presence_words Dist }
+    requires redist_words { length redist_presence.now ≡ presence_words Redist }
+    ensures frame { result.frame ≡ frame }
+    ensures shape { result.shape ≡ shape }
+    ensures presence { (d r : List ℕ) → result.presence.now ≡ presence_of frame (lent d r dist_presence.now redist_presence.now) }
+{
+    let presence = match frame {
+        Frame::Dist => dist_presence,
+        Frame::Redist => redist_presence,
+    };
+    Bank {
+        frame,
+        shape,
+        presence,
     }
 }
 
@@ -61,30 +75,12 @@ pub fn access(
         ≡ stepped shape (step.access request)
         (lent dist.old redist.old dist_presence.now redist_presence.now) }
 {
-    if !well_formed(
-        shape,
-        dist.len(),
-        redist.len(),
-        dist_presence.len(),
-        redist_presence.len(),
-    ) {
+    if !well_formed(shape, dist, redist, dist_presence, redist_presence) {
         return Err(Refusal::Shape);
     }
-    let found = place_of(request);
-    let Ok(place) = found else {
-        return refused(found);
-    };
+    let place = place_of(request)?;
     let target = target_of(place);
-    let frame = request.frame;
-    let presence = match frame {
-        Frame::Dist => dist_presence,
-        Frame::Redist => redist_presence,
-    };
-    let bank = Bank {
-        frame,
-        shape,
-        presence,
-    };
+    let bank = bank_of(request.frame, shape, dist_presence, redist_presence);
     serve(dist, redist, bank, request, target)
 }
 
@@ -105,26 +101,15 @@ pub fn event(
         ≡ stepped shape (step.happens event intid)
         (lent dist.old redist.old dist_presence.now redist_presence.now) }
 {
-    if !well_formed(
-        shape,
-        dist.len(),
-        redist.len(),
-        dist_presence.len(),
-        redist_presence.len(),
-    ) {
+    if !well_formed(shape, dist, redist, dist_presence, redist_presence) {
         return Err(Refusal::Shape);
     }
     let frame = frame_of(intid);
-    let (records, presence) = match frame {
-        Frame::Dist => (dist, dist_presence),
-        Frame::Redist => (redist, redist_presence),
-    };
-    let bank = Bank {
-        frame,
-        shape,
-        presence,
-    };
-    happen(records, bank, intid, event)
+    let bank = bank_of(frame, shape, dist_presence, redist_presence);
+    match frame {
+        Frame::Dist => happen(dist, bank, intid, event),
+        Frame::Redist => happen(redist, bank, intid, event),
+    }
 }
 
 // All record bytes become 0; presence stays.
@@ -142,13 +127,7 @@ pub fn reset(
         ≡ stepped shape step.reset
         (lent dist.old redist.old dist_presence.now redist_presence.now) }
 {
-    if !well_formed(
-        shape,
-        dist.len(),
-        redist.len(),
-        dist_presence.len(),
-        redist_presence.len(),
-    ) {
+    if !well_formed(shape, dist, redist, dist_presence, redist_presence) {
         return Err(Refusal::Shape);
     }
     clear(dist);

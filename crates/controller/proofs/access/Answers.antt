@@ -1,33 +1,41 @@
-use Rattle.std.proofs.Common.{rules, ◌≡◌, ℕ, ◌+◌, ◌-◌, ◌*◌, ◌<◌, ◌≤◌, length, ◌/◌, ◌%◌, Bool, true, false, nat_eq, nat_lt, List, [], ◌∷◌, ◌++◌, slice_index_or, slice_set, bit_and, bit_or, Fits, w8, w32, w64, Bor, MutBor}
-use Rattle.types.specs.declared.Refusal.{Refusal as Why}
-use Rattle.types.specs.declared.Decoded.TheVariants as decoded
-use Rattle.types.specs.declared.Answer.TheVariants as answer
-use Rattle.meaning.specs.Interrupt.{frame_of}
-use Rattle.meaning.specs.Layout.{lent}
+-- `access` is `stepped`: refusal 1 (returns-then-not-well_formed), refusals 2 to 6 (returns-in_err-place), an access at its place
+-- (returns).
+use mathlib.Core.Path.{sym, ◌∙◌}
+use Rattle.std.proofs.lemmas.Result.{err_from_is_err_and}
+use Rattle.meaning.specs.Layout.{Tables, lent}
 use Rattle.meaning.specs.Rule as step
-use Rattle.meaning.specs.Step.{stepped}
+use Rattle.register_decoder.proofs.Windows.{placed_number}
+use Rattle.controller.proofs.Places.{target_room}
+use Rattle.controller.proofs.Outcomes.{ill, access_refused, access_served}
 use Rattle.controller.proofs.access.Goals as goal
 
--- src/lib.rt:73:9
 pub returns-then-not-well_formed : goal.returns-then-not-well_formed
-returns-then-not-well_formed c = ?
+returns-then-not-well_formed c =
+    ill c.args.shape (step.access c.args.request) _ (sym c.well_formed-2.ensures.judged ∙ c.if-not-well_formed.true)
 
--- src/lib.rt:77:9
-pub returns-in_default : goal.returns-in_default
-returns-in_default c = ?
+pub returns-in_err-place : goal.returns-in_err-place
+returns-in_err-place c =
+    let a = c.args in
+    let p = err_from_is_err_and c.from_residual.result c.from_residual.ensures.1 in
+    rw (p.1, p.2)
+    (access_refused a.shape _ (sym c.well_formed-2.ensures.judged ∙ c.if-not-well_formed.false) a.request _
+    (sym c.in_err-place.ensures))
 
--- src/lib.rt:79:9
 pub target_of-target-requires : goal.target_of-target-requires
-target_of-target-requires c = ?
+target_of-target-requires c = placed_number c.args.request c.in_ok-place.place (sym c.in_ok-place.ensures)
 
--- src/lib.rt:90:5
-pub invariant_of-bank : goal.invariant_of-bank
-invariant_of-bank c = ?
-
--- src/lib.rt:90:5
 pub serve-requires : goal.serve-requires
-serve-requires c = ?
+serve-requires c =
+    let a = c.args in
+    let t : Tables = lent a.dist.now a.redist.now a.dist_presence.now a.redist_presence.now in
+    target_room a.shape t (sym c.well_formed-2.ensures.judged ∙ c.if-not-well_formed.false) a.request c.in_ok-place.place
+    (sym c.in_ok-place.ensures) c.target_of-target.result c.target_of-target.ensures c.bank_of-bank.result c.bank_of-bank.ensures.frame
 
--- src/lib.rt:51:1
 pub returns : goal.returns
-returns c = ?
+returns c =
+    let a = c.args in
+    let t : Tables = lent a.dist.now a.redist.now a.dist_presence.now a.redist_presence.now in
+    let served = rw c.bank_of-bank.ensures.shape at c.serve.ensures in
+    access_served a.shape t (sym c.well_formed-2.ensures.judged ∙ c.if-not-well_formed.false) a.request c.in_ok-place.place
+    (sym c.in_ok-place.ensures) c.target_of-target.result c.target_of-target.ensures c.bank_of-bank.result.presence.now
+    (c.bank_of-bank.ensures.presence a.dist.now a.redist.now) _ _ _ served

@@ -1,17 +1,15 @@
-use Rattle.std.proofs.Common.{rules, ◌≡◌, ℕ, ◌+◌, ◌-◌, ◌*◌, ◌<◌, ◌≤◌, length, ◌/◌, ◌%◌, Bool, true, false, nat_eq, nat_lt, List, [], ◌∷◌, ◌++◌, slice_index_or, slice_set, bit_and, bit_or, Fits, w8, w32, w64, Bor, MutBor}
-use Rattle.types.specs.declared.Refusal.{Refusal as Why}
-use Rattle.types.specs.declared.Decoded.TheVariants as decoded
-use Rattle.types.specs.declared.Answer.TheVariants as answer
-use Rattle.meaning.specs.Interrupt.{frame_of}
-use Rattle.meaning.specs.Layout.{lent}
+-- `reset` is `stepped`: refusal 1 (returns-then-not-well_formed), and all records 0 (returns).
+use mathlib.Core.Path.{sym, ◌∙◌}
+use Rattle.meaning.specs.Layout.{Tables, lent}
 use Rattle.meaning.specs.Rule as step
-use Rattle.meaning.specs.Step.{stepped}
+use Rattle.controller.proofs.Outcomes.{ill, all_cleared}
 use Rattle.controller.proofs.reset.Goals as goal
 
--- src/lib.rt:154:9
 pub returns-then-not-well_formed : goal.returns-then-not-well_formed
-returns-then-not-well_formed c = ?
+returns-then-not-well_formed c = ill c.args.shape step.reset _ (sym c.well_formed-2.ensures.judged ∙ c.if-not-well_formed.true)
 
--- src/lib.rt:133:1
 pub returns : goal.returns
-returns c = ?
+returns c =
+    let a = c.args in
+    let t : Tables = lent a.dist.now a.redist.now a.dist_presence.now a.redist_presence.now in
+    all_cleared a.shape t (sym c.well_formed-2.ensures.judged ∙ c.if-not-well_formed.false) _ _ c.clear.ensures c.clear-2.ensures
