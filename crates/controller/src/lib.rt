@@ -1,6 +1,8 @@
 // The monitor's answers. Each function takes the four lent tables, the shape and a request, has no condition on any of them,
 // and is one equation: its answer and the tables after it are what the meaning's `stepped` says, refusals included.
 // The frame is chosen here, once: what lies below takes the records and presence words of one bank.
+// The tables are parameters and no struct: of a struct that holds a `&mut`, the equation would have to say by ghost names that it is
+// the same memory before and after, or read its fields as nested pairs; so it says `dist.new`.
 //
 //   dist             2,012 record bytes of the Distributor      lent for reading and writing
 //   redist           96 record bytes of the Redistributor       lent for reading and writing

@@ -33,13 +33,11 @@ fn write(dist: &mut [u8], redist: &mut [u8], bank: Bank, side: Side, target: Tar
         redist.new at i }
 {
     match target {
-        Target::Digits(window) => {
-            let frame = bank.frame;
-            match frame {
-                Frame::Dist => write_word(dist, bank, side, window, value),
-                Frame::Redist => write_word(redist, bank, side, window, value),
-            }
-        }
+        // two calls: one variable for one of two borrows is not covered, and a function that returned it would forget the other table
+        Target::Digits(window) => match bank.frame {
+            Frame::Dist => write_word(dist, bank, side, window, value),
+            Frame::Redist => write_word(redist, bank, side, window, value),
+        },
         Target::Typer => {}
         Target::Message(message) => send(dist, bank, side, message, value),
     }
@@ -70,13 +68,11 @@ pub fn serve(
         → Served bank.entry.shape request target bank.entry.presence.now dist.old redist.old result dist.new
         redist.new at i }
 {
-    let side = request.side;
-    let way = request.way;
-    match way {
-        Way::Read => Ok(read(dist, redist, bank, side, target)),
+    match request.way {
+        Way::Read => Ok(read(dist, redist, bank, request.side, target)),
         Way::Write => {
             let value = value_of(request);
-            write(dist, redist, bank, side, target, value);
+            write(dist, redist, bank, request.side, target, value);
             Ok(0)
         }
     }

@@ -77,18 +77,16 @@ impl Bank<'_> {
     fn range_of(self, m: u32) -> Range
         ensures { result ≡ range_of self.entry.shape self.entry.frame m }
     {
-        let shape = self.shape;
-        let frame = self.frame;
-        match frame {
+        match self.frame {
             Frame::Dist if m < 1020 => Range {
                 low: 32,
-                high: (32 * shape.lines + 32).min(1020),
+                high: (32 * self.shape.lines + 32).min(1020),
                 slot: 0,
                 word: 0,
             },
             Frame::Dist => Range {
                 low: 4096,
-                high: 4096 + 32 * shape.espi,
+                high: 4096 + 32 * self.shape.espi,
                 slot: 988,
                 word: 31,
             },
@@ -100,7 +98,7 @@ impl Bank<'_> {
             },
             Frame::Redist => Range {
                 low: 1056,
-                high: 1056 + 32 * shape.eppi,
+                high: 1056 + 32 * self.shape.eppi,
                 slot: 32,
                 word: 1,
             },
