@@ -2,7 +2,7 @@
 #![tactic(auto)]
 
 ghost use Rattle.std.specs.Prelude.{◌≡◌, ◌<◌, ◌≤◌};
-ghost use Rattle.meaning.specs.Registers.{wide_enough, if_wide, place_of, target_of};
+ghost use Rattle.meaning.specs.Registers.{wide_enough, place_of, target_of};
 ghost use Rattle.register_decoder.specs.Digits.{number_of, origin, count_of, digits_from};
 
 use register_families::row_of;
@@ -14,45 +14,37 @@ fn wide_enough(width: u32, low: u32, place: Place) -> bool
     ensures { result ≡ wide_enough width low place }
 {
     match place {
-        Place::Word(_, _, _) => width == 4,
-        Place::Extended(_, _, _) => width == 4,
-        Place::Typer => width == 4,
+        Place::Word(..) | Place::Extended(..) | Place::Typer => width == 4,
         Place::Message(_) => low == 0,
     }
 }
 
-// Refusal 6.
-fn if_wide(width: u32, low: u32, found: Decoded) -> Decoded
-    ensures { result ≡ if_wide width low found }
-{
-    let Ok(place) = found else {
-        return found;
-    };
-    if wide_enough(width, low, place) {
-        Ok(place)
-    } else {
-        Err(Refusal::Narrow)
-    }
-}
-
 // The decoder: refusals 2 to 6 in order, or the place.
+#[tactic(auto, unfolding(meaning::specs::Registers::place_of))]
 pub fn place_of(request: Access) -> Decoded
     ensures { result ≡ place_of request }
 {
     let width = request.width;
     let offset = request.offset;
-    if !((width == 2) | (width == 4)) {
+    if !matches!(width, 2 | 4) {
         return Err(Refusal::Width);
     }
-    if !(offset % width == 0) {
+    if offset % width != 0 {
         return Err(Refusal::Alignment);
     }
-    if 65535 < offset {
+    if offset > 65535 {
         return Err(Refusal::Offset);
     }
-    let frame = request.frame;
     let low = offset % 4;
-    if_wide(width, low, listed_at(frame, offset - low))
+    let found = listed_at(request.frame, offset - low);
+    // and no `?`, which says the same: document 01 names this form for the place of an access
+    let Ok(place) = found else {
+        return found;
+    };
+    if !wide_enough(width, low, place) {
+        return Err(Refusal::Narrow);
+    }
+    Ok(place)
 }
 
 // The INTID that a frame's extended words are counted from.
@@ -70,13 +62,8 @@ fn count_of(frame: Frame, first: u32, per: u32) -> u32
     ensures { result ≡ count_of frame first per }
 {
     match frame {
-        Frame::Dist => {
-            if first < 32 {
-                return 0;
-            }
-            per
-        }
-        Frame::Redist => per,
+        Frame::Dist if first < 32 => 0,
+        Frame::Dist | Frame::Redist => per,
     }
 }
 
@@ -85,8 +72,7 @@ fn digits(frame: Frame, family: Family, from: u32, n: u32) -> Target
     requires { (from ≤ 4096) × (n < 64) }
     ensures { result ≡ digits_from frame family from n }
 {
-    let row = row_of(family);
-    let per = row.per;
+    let per = row_of(family).per;
     let first = from + per * n;
     Target::Digits(Window {
         frame,
@@ -97,6 +83,7 @@ fn digits(frame: Frame, family: Family, from: u32, n: u32) -> Target
 }
 
 // What a place stands for. Behind the decoder no other function takes a place apart.
+#[tactic(auto, unfolding(meaning::specs::Registers::target_of))]
 pub fn target_of(place: Place) -> Target
     requires { number_of place < 64 }
     ensures { result ≡ target_of place }
