@@ -9,17 +9,7 @@ use types::{Answer, Refusal};
 pub fn number_of(refusal: Refusal) -> u32
     ensures { result ≡ number refusal }
 {
-    match refusal {
-        Refusal::Shape => 1,
-        Refusal::Width => 2,
-        Refusal::Alignment => 3,
-        Refusal::Offset => 4,
-        Refusal::Unlisted => 5,
-        Refusal::Narrow => 6,
-        Refusal::Intid => 7,
-        Refusal::SgiWire => 8,
-        Refusal::State => 9,
-    }
+    refusal as u32
 }
 
 pub fn status_of(answer: Answer) -> u32
@@ -34,8 +24,5 @@ pub fn status_of(answer: Answer) -> u32
 pub fn value_of(answer: Answer) -> u32
     ensures { result ≡ value_of answer }
 {
-    match answer {
-        Ok(v) => v,
-        Err(_) => 0,
-    }
+    answer.unwrap_or(0)
 }

@@ -135,18 +135,18 @@ pub enum Place {
     Message(Message),
 }
 
-// Why a step is refused. The numbers that document 01 gives them are `number`'s, in the meaning.
+// Why a step is refused, by document 01's numbers.
 #[derive(Clone, Copy)]
 pub enum Refusal {
-    Shape,
-    Width,
-    Alignment,
-    Offset,
-    Unlisted,
-    Narrow,
-    Intid,
-    SgiWire,
-    State,
+    Shape = 1,
+    Width = 2,
+    Alignment = 3,
+    Offset = 4,
+    Unlisted = 5,
+    Narrow = 6,
+    Intid = 7,
+    SgiWire = 8,
+    State = 9,
 }
 
 // Where an access goes, or why it goes nowhere.
