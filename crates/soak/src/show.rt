@@ -1,44 +1,53 @@
 // One step as a line of numbers, for those who look for the first difference (docs/SOAK.md has their order).
-use crate::print::{field, hex, line_end, spaced};
 use answers::{status_of, value_of};
-use soak_steps::draws::Request;
-use std::io;
+use soak_steps::asked::{Off, Step};
+use soak_steps::draws::Drawn;
+use std::fmt;
 use types::Answer;
 
-fn request(rt: &impl Print, q: Request) -> io::Result<()> {
-    spaced(rt, q.class)?;
-    spaced(rt, q.side)?;
-    spaced(rt, q.way)?;
-    spaced(rt, q.frame)?;
-    spaced(rt, q.width)?;
-    spaced(rt, q.offset)?;
-    spaced(rt, q.value)?;
-    spaced(rt, q.intid)
+// A step, its answer, and the tables' last digest.
+#[derive(Clone, Copy)]
+pub struct Shown {
+    pub number: u64,
+    pub drawn: Drawn,
+    pub answer: Answer,
+    pub tables: u64,
 }
 
-// Where it is asked for (`on`).
-pub fn show(
-    rt: &impl Print,
-    on: bool,
-    number: u64,
-    q: Request,
-    off: u32,
-    answer: Answer,
-) -> io::Result<()> {
-    if !on {
-        return Ok(());
+impl fmt::Display for Shown {
+    fn fmt<W: fmt::Write>(&self, f: &mut fmt::Formatter<W>) -> fmt::Result {
+        let Drawn {
+            kind,
+            step,
+            off,
+            ..
+        } = self.drawn;
+        write!(
+            f,
+            "step {} {} {} {}",
+            self.number,
+            kind.class(),
+            step.side(),
+            step.way()
+        )?;
+        match step {
+            Step::Access(access) => {
+                write!(
+                    f,
+                    " {} {} {} {} 0",
+                    access.frame as u32, access.width, access.offset, access.value
+                )?;
+            }
+            Step::Event(intid, _) => write!(f, " 0 0 0 0 {intid}")?,
+            Step::Reset => write!(f, " 0 0 0 0 0")?,
+        }
+        let off = off.map_or(0, Off::number);
+        write!(
+            f,
+            " {off} {} {} {:016x}",
+            status_of(self.answer),
+            value_of(self.answer),
+            self.tables
+        )
     }
-    field(rt, b"step ", number)?;
-    request(rt, q)?;
-    spaced(rt, off)?;
-    spaced(rt, status_of(answer))?;
-    spaced(rt, value_of(answer))
-}
-
-pub fn show_digest(rt: &impl Print, on: bool, tables: u64) -> io::Result<()> {
-    if on {
-        hex(rt, b" ", tables)?;
-        line_end(rt)?;
-    }
-    Ok(())
 }

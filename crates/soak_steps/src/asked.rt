@@ -1,131 +1,168 @@
 // A drawn step of a long random run, put to the controller (docs/SOAK.md).
-ghost use Rattle.std.specs.Prelude.{◌≤◌};
+ghost use Rattle.std.specs.Prelude.{◌+◌, ◌<◌, ◌≤◌};
 
-use crate::draws::Request;
-use types::{Access, Answer, Event, Frame, Shape, Side};
+use crate::lent::Tables;
+use types::{Access, Answer, Event, Shape};
 
-fn side_of(n: u32) -> Side {
-    if n == 0 {
-        Side::Secure
-    } else {
-        Side::NonSecure
+// What is asked of the controller.
+#[derive(Clone, Copy)]
+pub enum Step {
+    Access(Access),
+    // On an INTID.
+    Event(u32, Event),
+    Reset,
+}
+
+impl Step {
+    // 1 for the Non-secure side; 0 for the Secure one, and for a step that names none.
+    pub fn side(self) -> u32
+        ensures { result < 2 }
+    {
+        match self {
+            Step::Access(access) => access.side as u32,
+            Step::Event(_, Event::Activate(side) | Event::Deactivate(side)) => side as u32,
+            Step::Event(_, Event::Wire(_)) | Step::Reset => 0,
+        }
+    }
+
+    // 1 for a write, and for a wire that goes high.
+    pub fn way(self) -> u32
+        ensures { result < 2 }
+    {
+        match self {
+            Step::Access(access) => access.way as u32,
+            Step::Event(_, Event::Wire(high)) => u32::from(high),
+            Step::Event(..) | Step::Reset => 0,
+        }
     }
 }
 
-fn frame_of(n: u32) -> Frame {
-    if n == 0 { Frame::Dist } else { Frame::Redist }
+#[derive(Clone, Copy, PartialEq, Eq)]
+pub enum Part {
+    Dist,
+    Redist,
+    DistPresence,
+    RedistPresence,
 }
 
-fn access_of(q: Request) -> Access {
-    let frame = frame_of(q.frame);
-    let side = side_of(q.side);
-    if q.way == 0 {
-        return Access::read(frame, side, q.width, q.offset);
-    }
-    Access::write(frame, side, q.width, q.offset, q.value)
+#[derive(Clone, Copy, PartialEq, Eq)]
+pub enum Limit {
+    Lines,
+    Espi,
+    Eppi,
 }
 
-fn event_of(q: Request) -> Event {
-    let side = side_of(q.side);
-    if q.class == 33 {
-        return Event::Wire(q.way == 1);
-    }
-    if q.class == 34 {
-        return Event::Activate(side);
-    }
-    Event::Deactivate(side)
+// What is off its limit for one step alone: a table that is lent an element short or long, or a shape number, one past its limit or the
+// largest there is.
+#[derive(Clone, Copy, PartialEq, Eq)]
+pub enum Off {
+    Short(Part),
+    Long(Part),
+    Past(Limit),
+    Largest(Limit),
 }
 
-// The length that a table is lent with: one short where `off` is `short`, one long where it is the number after.
-fn lent(off: u32, short: u32, right: usize) -> usize {
-    let most = right % 65536;
-    if off == short % 16 {
-        return if most > 0 { most - 1 } else { 0 };
-    }
-    if off == short % 16 + 1 {
-        most + 1
-    } else {
-        most
+impl Off {
+    // The number that is shown of it.
+    pub fn number(self) -> u32 {
+        match self {
+            Off::Short(part) => 1 + 2 * (part as u32),
+            Off::Long(part) => 2 + 2 * (part as u32),
+            Off::Past(limit) => 9 + limit as u32,
+            Off::Largest(limit) => 12 + limit as u32,
+        }
     }
 }
 
-// The length, or all of a table that is shorter.
-fn within(n: usize, most: usize) -> usize
-    ensures { result ≤ most }
+// How many elements of a table are lent, of `right` that it has.
+fn lent_of(off: Option<Off>, part: Part, right: usize) -> usize
+    ensures { result ≤ right + 1 }
 {
-    if n <= most { n } else { most }
+    if off == Some(Off::Short(part)) {
+        return right.saturating_sub(1);
+    }
+    if off == Some(Off::Long(part)) {
+        right.saturating_add(1)
+    } else {
+        right
+    }
 }
 
-// A shape number, or one past its limit where `off` is `first`, or the largest there is where it is `second`.
-fn passed(n: u32, past: u32, off: u32, first: u32, second: u32) -> u32 {
-    if off == first {
+// A shape number, or what stands for it where it is off its limit.
+fn passed(off: Option<Off>, limit: Limit, right: u32, past: u32) -> u32 {
+    if off == Some(Off::Past(limit)) {
         return past;
     }
-    if off == second { 4294967295 } else { n }
+    if off == Some(Off::Largest(limit)) {
+        u32::MAX
+    } else {
+        right
+    }
 }
 
-fn shape_off(shape: Shape, off: u32) -> Shape {
+fn shape_off(off: Option<Off>, shape: Shape) -> Shape {
     Shape::new(
-        passed(shape.lines, 32, off, 9, 12),
-        passed(shape.espi, 33, off, 10, 13),
-        passed(shape.eppi, 3, off, 11, 14),
+        passed(off, Limit::Lines, shape.lines, 32),
+        passed(off, Limit::Espi, shape.espi, 33),
+        passed(off, Limit::Eppi, shape.eppi, 3),
         shape.mbis,
     )
 }
 
-// The step on the tables and the shape as they are lent for it.
+// A step on the tables and the shape as they are lent for it.
 fn put(
     dist: &mut [u8],
     redist: &mut [u8],
     dist_presence: &[u32],
     redist_presence: &[u32],
     shape: Shape,
-    q: Request,
+    step: Step,
 ) -> Answer {
-    if q.class < 33 {
-        return controller::access(
+    match step {
+        Step::Access(access) => controller::access(
             dist,
             redist,
             dist_presence,
             redist_presence,
             shape,
-            access_of(q),
-        );
+            access,
+        ),
+        Step::Event(intid, event) => controller::event(
+            dist,
+            redist,
+            dist_presence,
+            redist_presence,
+            shape,
+            intid,
+            event,
+        ),
+        Step::Reset => controller::reset(dist, redist, dist_presence, redist_presence, shape),
     }
-    if q.class == 36 {
-        return controller::reset(dist, redist, dist_presence, redist_presence, shape);
-    }
-    controller::event(
-        dist,
-        redist,
-        dist_presence,
-        redist_presence,
-        shape,
-        q.intid,
-        event_of(q),
-    )
 }
 
-// One step. What `off` names is off its limit for this step alone.
-pub fn ask(
-    dist: &mut [u8],
-    redist: &mut [u8],
-    dist_presence: &[u32],
-    redist_presence: &[u32],
-    shape: Shape,
-    off: u32,
-    q: Request,
-) -> Answer {
-    let dist_bytes = within(lent(off, 1, 2012), dist.len());
-    let redist_bytes = within(lent(off, 3, 96), redist.len());
-    let dist_words = within(lent(off, 5, 63), dist_presence.len());
-    let redist_words = within(lent(off, 7, 3), redist_presence.len());
-    put(
-        &mut dist[0..dist_bytes],
-        &mut redist[0..redist_bytes],
-        &dist_presence[0..dist_words],
-        &redist_presence[0..redist_words],
-        shape_off(shape, off),
-        q,
-    )
+impl Tables {
+    // One step. What `off` names is off its limit for this step alone.
+    pub fn ask(&mut self, shape: Shape, off: Option<Off>, step: Step) -> Answer {
+        let dist_bytes = lent_of(off, Part::Dist, 2012);
+        let redist_bytes = lent_of(off, Part::Redist, 96);
+        let dist_words = lent_of(off, Part::DistPresence, 63);
+        let redist_words = lent_of(off, Part::RedistPresence, 3);
+        let Tables {
+            dist,
+            redist,
+            dist_presence,
+            redist_presence,
+        } = self;
+        // as slices, since a part of an array that a struct lends is not lent on
+        let dist: &mut [u8] = dist;
+        let redist: &mut [u8] = redist;
+        put(
+            &mut dist[..dist_bytes],
+            &mut redist[..redist_bytes],
+            &dist_presence[..dist_words],
+            &redist_presence[..redist_words],
+            shape_off(off, shape),
+            step,
+        )
+    }
 }

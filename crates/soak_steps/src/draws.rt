@@ -1,201 +1,259 @@
 // What a step of a long random run asks for (docs/SOAK.md). Each step takes four numbers of the stream, whatever it is.
+ghost use Rattle.std.specs.Prelude.{◌<◌};
+
+use crate::asked::{Limit, Off, Part, Step};
 use crate::edges::{any_offset, any_width, edge, near, offset_of};
 use crate::random::{next, pick, word};
-use crate::table::{Table, home_of, intid_of};
-use types::Shape;
+use crate::table::{Column, Home, Table};
+use types::{Access, Event, Family, Frame, Message, Side, Way};
 
-// One step. A field that its kind of step does not use is 0.
+const FAMILIES: [Family; 9] = [
+    Family::Igroupr,
+    Family::Isenabler,
+    Family::Icenabler,
+    Family::Ispendr,
+    Family::Icpendr,
+    Family::Isactiver,
+    Family::Icactiver,
+    Family::Igrpmodr,
+    Family::Icfgr,
+];
+
+const MESSAGES: [Message; 4] = [
+    Message::SetspiNsr,
+    Message::ClrspiNsr,
+    Message::SetspiSr,
+    Message::ClrspiSr,
+];
+
+const OFFS: [Off; 14] = [
+    Off::Short(Part::Dist),
+    Off::Long(Part::Dist),
+    Off::Short(Part::Redist),
+    Off::Long(Part::Redist),
+    Off::Short(Part::DistPresence),
+    Off::Long(Part::DistPresence),
+    Off::Short(Part::RedistPresence),
+    Off::Long(Part::RedistPresence),
+    Off::Past(Limit::Lines),
+    Off::Past(Limit::Espi),
+    Off::Past(Limit::Eppi),
+    Off::Largest(Limit::Lines),
+    Off::Largest(Limit::Espi),
+    Off::Largest(Limit::Eppi),
+];
+
+// The kind of step.
 #[derive(Clone, Copy)]
-pub struct Request {
-    // The kind of step, by which the steps are counted. 0 to 26: a word of a family, 9 · column + family (column 0 the Distributor's
-    // words, 1 its extended ones, 2 the Redistributor's). 27: TYPER. 28 to 31: one of the four message registers. 32: any width at any
-    // offset. 33: a wire. 34: an activation. 35: a deactivation. 36: a reset.
-    pub class: u32,
-    // 0 Secure, 1 Non-secure.
-    pub side: u32,
-    // Of an access: 0 read, 1 write. Of a wire: 0 goes low, 1 goes high.
-    pub way: u32,
-    // 0 Distributor, 1 Redistributor.
-    pub frame: u32,
-    pub width: u32,
-    pub offset: u32,
-    // The value to write. It is drawn for reads as well, and then only shown.
-    pub value: u32,
-    pub intid: u32,
+pub enum Kind {
+    // A word of a family.
+    Word(Column, Family),
+    Typer,
+    Message(Message),
+    // Any width at any offset.
+    Anywhere,
+    Wire,
+    Activate,
+    Deactivate,
+    Reset,
+}
+
+impl Kind {
+    // The number by which steps are counted: of a word 9 · column + family, as the two are declared.
+    pub fn class(self) -> u32
+        ensures { result < 37 }
+    {
+        match self {
+            Kind::Word(column, family) => 9 * (column as u32) + family as u32,
+            Kind::Typer => 27,
+            Kind::Message(message) => 28 + message as u32,
+            Kind::Anywhere => 32,
+            Kind::Wire => 33,
+            Kind::Activate => 34,
+            Kind::Deactivate => 35,
+            Kind::Reset => 36,
+        }
+    }
+}
+
+// A step, what is off its limit for it, and the stream after it.
+#[derive(Clone, Copy)]
+pub struct Drawn {
+    pub kind: Kind,
+    pub step: Step,
+    pub off: Option<Off>,
+    pub x: u64,
+}
+
+impl Table {
+    // The step that is taken where the stream stands at x.
+    pub fn step(self, x: u64) -> Drawn {
+        let n = Numbers::after(x);
+        let (kind, step) = n.request(self, self.homes[pick(n.a, 4, 4) as usize]);
+        Drawn {
+            kind,
+            step,
+            off: OFFS.get(pick(n.e, 40, 512) as usize).copied(),
+            x: n.e,
+        }
+    }
 }
 
 // The four numbers of a step.
 #[derive(Clone, Copy)]
-pub struct Numbers {
+struct Numbers {
     a: u64,
     b: u64,
     c: u64,
-    // The last, from which the stream goes on.
-    pub e: u64,
+    e: u64,
 }
 
-pub fn four_of(x: u64) -> Numbers {
-    let a = next(x);
-    let b = next(a);
-    let c = next(b);
-    let e = next(c);
-    Numbers { a, b, c, e }
+impl Numbers {
+    fn after(x: u64) -> Numbers {
+        let a = next(x);
+        let b = next(a);
+        let c = next(b);
+        let e = next(c);
+        Numbers { a, b, c, e }
+    }
+
+    // Of 64 steps about 8 are wires, 6 activations, 5 deactivations, one TYPER or (1 in 32) reset, 6 messages, 4 anywhere, 34 words of
+    // a family.
+    fn request(self, table: Table, home: Home) -> (Kind, Step) {
+        match pick(self.a, 8, 64) {
+            0..=7 => {
+                let wire = Event::Wire(pick(self.e, 8, 2) == 1);
+                (Kind::Wire, Step::Event(self.named(table, home), wire))
+            }
+            8..=13 => {
+                let activate = Event::Activate(self.side());
+                (
+                    Kind::Activate,
+                    Step::Event(self.named(table, home), activate),
+                )
+            }
+            14..=18 => {
+                let deactivate = Event::Deactivate(self.side());
+                (
+                    Kind::Deactivate,
+                    Step::Event(self.named(table, home), deactivate),
+                )
+            }
+            19 if pick(self.a, 24, 32) == 0 => (Kind::Reset, Step::Reset),
+            19 => (
+                Kind::Typer,
+                self.access(Frame::Dist, 4, 4, word(self.c >> 8)),
+            ),
+            20..=25 => self.message(self.named(table, home)),
+            26..=29 => (Kind::Anywhere, self.anywhere()),
+            _ => self.family(home),
+        }
+    }
+
+    fn side(self) -> Side {
+        match pick(self.a, 16, 2) {
+            0 => Side::Secure,
+            _ => Side::NonSecure,
+        }
+    }
+
+    // An access. The value to write is drawn for reads as well, which ignore it, and then only shown.
+    fn access(self, frame: Frame, width: u32, offset: u32, value: u32) -> Step {
+        let way = match pick(self.a, 20, 8) {
+            0..=2 => Way::Read,
+            _ => Way::Write,
+        };
+        Step::Access(Access::new(frame, self.side(), way, width, offset, value))
+    }
+
+    // An INTID: the home's (5 of 8), one of its word, an edge, or one near the shape's limits.
+    fn named(self, table: Table, home: Home) -> u32 {
+        match pick(self.c, 4, 8) {
+            0..=4 => home.intid(),
+            5 => {
+                let bit = pick(self.b, 24, 32);
+                Home {
+                    column: home.column,
+                    word: home.word,
+                    bit,
+                }
+                .intid()
+            }
+            6 => edge(word(self.b >> 24)),
+            _ => near(table, pick(self.b, 32, 8), word(self.e >> 16)),
+        }
+    }
+
+    // SETSPI and CLRSPI, with anything in the value's bits above 12.
+    fn message(self, intid: u32) -> (Kind, Step) {
+        let which = pick(self.b, 4, 4);
+        let width = if pick(self.b, 8, 2) == 0 { 2 } else { 4 };
+        let value = (intid % 8192) | (word(self.c >> 8) & 0xFFFFE000);
+        let step = self.access(Frame::Dist, width, 0x40 + 8 * which, value);
+        (Kind::Message(MESSAGES[which as usize]), step)
+    }
+
+    // Any width at any offset of any frame; most are refused.
+    fn anywhere(self) -> Step {
+        let frame = match pick(self.b, 4, 2) {
+            0 => Frame::Dist,
+            _ => Frame::Redist,
+        };
+        let offset = any_offset(pick(self.b, 8, 32), word(self.c >> 8));
+        let width = any_width(pick(self.b, 16, 16), word(self.e >> 8));
+        self.access(frame, width, offset, word(self.e >> 24))
+    }
+
+    // A word of a family: the home's, or (1 in 16) any; 1 in 64 at width 2.
+    fn family(self, home: Home) -> (Kind, Step) {
+        let family = FAMILIES[pick(self.b, 4, 9) as usize];
+        let at = if pick(self.b, 8, 16) == 0 {
+            self.wander(home)
+        } else {
+            home
+        };
+        let frame = match at.column {
+            Column::Dist | Column::Extended => Frame::Dist,
+            Column::Redist => Frame::Redist,
+        };
+        let width = if pick(self.b, 40, 64) == 0 { 2 } else { 4 };
+        let value = self.written(bit_of(at, family));
+        let step = self.access(frame, width, offset_of(at, family), value);
+        (Kind::Word(at.column, family), step)
+    }
+
+    // Another word, with the home's bit; word 3 of the Redistributor is not listed.
+    fn wander(self, home: Home) -> Home {
+        let any = word(self.b >> 20);
+        let (column, word) = match pick(self.b, 16, 3) {
+            0 => (Column::Dist, any % 32),
+            1 => (Column::Extended, any % 32),
+            _ => (Column::Redist, any % 4),
+        };
+        Home {
+            column,
+            word,
+            bit: home.bit,
+        }
+    }
+
+    // A value that mostly has the home's bit.
+    fn written(self, bit: u32) -> u32 {
+        let any = word(self.c >> 8);
+        match pick(self.c, 44, 8) {
+            0 => bit,
+            1 => u32::MAX,
+            2 => 0,
+            3 => any & !bit,
+            _ => any | bit,
+        }
+    }
 }
 
-// What is off its limit for this step alone: 0 nothing, 1 to 8 a table's length, 9 to 14 a shape number.
-pub fn off_of(n: Numbers) -> u32 {
-    let off = pick(n.e, 40, 512);
-    if off < 14 { off + 1 } else { 0 }
-}
-
-fn event(class: u32, side: u32, way: u32, intid: u32) -> Request {
-    Request {
-        class,
-        side,
-        way,
-        frame: 0,
-        width: 0,
-        offset: 0,
-        value: 0,
-        intid,
+// A home's bit in its word of a family.
+fn bit_of(at: Home, family: Family) -> u32 {
+    match family {
+        Family::Icfgr => 1 << (2 * (at.bit % 16) + 1),
+        _ => 1 << at.bit,
     }
-}
-
-fn access(n: Numbers, class: u32, frame: u32, width: u32, offset: u32, value: u32) -> Request {
-    Request {
-        class,
-        side: side_of(n),
-        way: if pick(n.a, 20, 8) < 3 { 0 } else { 1 },
-        frame,
-        width,
-        offset,
-        value,
-        intid: 0,
-    }
-}
-
-fn side_of(n: Numbers) -> u32 {
-    pick(n.a, 16, 2)
-}
-
-// An INTID: the home's (5 of 8), one of its word, an edge, or one near the shape's limits.
-fn named(shape: Shape, home: u32, n: Numbers) -> u32 {
-    let which = pick(n.c, 4, 8);
-    if which < 5 {
-        return intid_of(home);
-    }
-    if which == 5 {
-        return intid_of(home / 32 % 128 * 32 + pick(n.b, 24, 32));
-    }
-    if which == 6 {
-        return edge(word(n.b >> 24));
-    }
-    near(shape, pick(n.b, 32, 8), word(n.e >> 16))
-}
-
-// SETSPI and CLRSPI, with anything in the value's bits above 12.
-fn message(intid: u32, n: Numbers) -> Request {
-    let which = pick(n.b, 4, 4);
-    let width = if pick(n.b, 8, 2) == 0 { 2 } else { 4 };
-    let value = (intid % 8192) | (word(n.c >> 8) & 0xFFFFE000);
-    access(n, 28 + which, 0, width, 0x40 + 8 * which, value)
-}
-
-// Any width at any offset of any frame; most are refused.
-fn anywhere(n: Numbers) -> Request {
-    let frame = pick(n.b, 4, 2);
-    let offset = any_offset(pick(n.b, 8, 32), word(n.c >> 8));
-    let width = any_width(pick(n.b, 16, 16), word(n.e >> 8));
-    access(n, 32, frame, width, offset, word(n.e >> 24))
-}
-
-// Another word, with the home's bit; word 3 of the Redistributor is not listed.
-fn wander(n: Numbers, home: u32) -> u32 {
-    let column = pick(n.b, 16, 3);
-    let any = word(n.b >> 20);
-    let at = if column == 2 { any % 4 } else { any % 32 };
-    column * 1024 + at % 32 * 32 + home % 32
-}
-
-// A value that mostly has the home's bit.
-fn written(bit: u32, n: Numbers) -> u32 {
-    let any = word(n.c >> 8);
-    let which = pick(n.c, 44, 8);
-    if which == 0 {
-        return bit;
-    }
-    if which == 1 {
-        return 4294967295;
-    }
-    if which == 2 {
-        return 0;
-    }
-    if which == 3 { any & !bit } else { any | bit }
-}
-
-fn bit_of(at: u32, family: u32) -> u32 {
-    if family == 8 {
-        return 1 << (2 * (at % 16) + 1);
-    }
-    1 << (at % 32)
-}
-
-// A word of a family: the home's, or (1 in 16) any; 1 in 64 at width 2.
-fn family(home: u32, n: Numbers) -> Request {
-    let which = pick(n.b, 4, 9);
-    let at = if pick(n.b, 8, 16) == 0 {
-        wander(n, home)
-    } else {
-        home
-    };
-    let column = at / 1024 % 3;
-    let width = if pick(n.b, 40, 64) == 0 { 2 } else { 4 };
-    let value = written(bit_of(at, which), n);
-    access(
-        n,
-        column * 9 + which,
-        column / 2,
-        width,
-        offset_of(at, which),
-        value,
-    )
-}
-
-// A wire, an activation, a deactivation or a reset.
-fn happening(kind: u32, n: Numbers, intid: u32) -> Request {
-    if kind < 8 {
-        return event(33, 0, pick(n.e, 8, 2), intid);
-    }
-    if kind < 14 {
-        return event(34, side_of(n), 0, intid);
-    }
-    if kind < 19 {
-        event(35, side_of(n), 0, intid)
-    } else {
-        event(36, 0, 0, 0)
-    }
-}
-
-// Of 64 steps about 8 are wires, 6 activations, 5 deactivations, one TYPER or (1 in 32) reset, 6 messages, 4 anywhere, 34 words of
-// a family.
-fn chosen(kind: u32, shape: Shape, home: u32, n: Numbers) -> Request {
-    if kind >= 30 {
-        return family(home, n);
-    }
-    if kind >= 26 {
-        return anywhere(n);
-    }
-    let intid = named(shape, home, n);
-    if kind >= 20 {
-        return message(intid, n);
-    }
-    if (kind == 19) & (pick(n.a, 24, 32) != 0) {
-        return access(n, 27, 0, 4, 4, word(n.c >> 8));
-    }
-    happening(kind, n, intid)
-}
-
-pub fn drawn(t: Table, n: Numbers) -> Request {
-    let home = home_of(t, pick(n.a, 4, 4));
-    chosen(pick(n.a, 8, 64), t.shape, home, n)
 }

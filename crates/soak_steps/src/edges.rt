@@ -1,15 +1,8 @@
 // The numbers that a long random run comes back to: where document 01's registers begin and where its ranges end (docs/SOAK.md).
-use types::Shape;
+ghost use Rattle.std.specs.Prelude.{◌≤◌};
 
-// First words by column, as document 01's table has them; ICFGR is the last of each.
-const BASES: [u32; 27] = [
-    // the Distributor's
-    0x080, 0x100, 0x180, 0x200, 0x280, 0x300, 0x380, 0xD00, 0xC00,
-    // its extended ones
-    0x1000, 0x1200, 0x1400, 0x1600, 0x1800, 0x1A00, 0x1C00, 0x3400, 0x3000,
-    // the Redistributor's
-    0x080, 0x100, 0x180, 0x200, 0x280, 0x300, 0x380, 0xD00, 0xC00,
-];
+use crate::table::{Column, Home, Table};
+use types::Family;
 
 const INTIDS: [u32; 24] = [
     0, 15, 16, 31, 32, 319, 320, 1019, 1020, 1023, 1055, 1056, 1087, 1088, 1119, 1120, 4095, 4096,
@@ -29,49 +22,82 @@ pub fn edge(k: u32) -> u32 {
 }
 
 // An INTID at a limit of the shape or one past it, or any.
-pub fn near(shape: Shape, which: u32, any: u32) -> u32 {
-    let pair = which / 2;
-    let past = which % 2;
-    if pair == 0 {
-        return 32 * (shape.lines % 32) + 31 + past;
+pub fn near(table: Table, which: u32, any: u32) -> u32 {
+    let shape = table.shape;
+    match which {
+        0 => 32 * shape.lines + 31,
+        1 => 32 * shape.lines + 32,
+        2 => 1055 + 32 * shape.eppi,
+        3 => 1056 + 32 * shape.eppi,
+        4 => 4095 + 32 * shape.espi,
+        5 => 4096 + 32 * shape.espi,
+        6 => any,
+        _ => any % 5200,
     }
-    if pair == 1 {
-        return 1055 + 32 * (shape.eppi % 4) + past;
-    }
-    if pair == 2 {
-        return 4095 + 32 * (shape.espi % 64) + past;
-    }
-    if past == 0 { any } else { any % 5200 }
 }
 
 // An offset: an edge, any in the frame, any word's, one past the frame, or any.
 pub fn any_offset(which: u32, any: u32) -> u32 {
-    if which < 20 {
-        return OFFSETS[(which % 20) as usize];
+    match which {
+        0..=19 => OFFSETS[which as usize],
+        20..=23 => any % 65536,
+        24..=27 => 4 * (any % 4096),
+        28 | 29 => 65536 + any % 65536,
+        _ => any,
     }
-    if which < 24 {
-        return any % 65536;
-    }
-    if which < 28 {
-        return 4 * (any % 4096);
-    }
-    if which < 30 { 65536 + any % 65536 } else { any }
 }
 
 // A width: one of a few, or any.
 pub fn any_width(which: u32, any: u32) -> u32 {
-    if which < 8 {
-        return WIDTHS[(which % 8) as usize];
+    match which {
+        0..=7 => WIDTHS[which as usize],
+        8 => any,
+        _ => 4,
     }
-    if which == 8 { any } else { 4 }
 }
 
-// The offset of a home's word in a family; 8 is ICFGR, which has two words for each.
-pub fn offset_of(at: u32, family: u32) -> u32 {
-    let base = BASES[(at / 1024 % 3 * 9 + family % 9) as usize] % 65536;
-    let n = at / 32 % 32;
-    if family == 8 {
-        return base + 4 * (2 * n + at % 32 / 16);
+// The offset of a family's first word, as document 01's table has it.
+fn base(family: Family) -> u32
+    ensures { result ≤ 0x3400 }
+{
+    match family {
+        Family::Igroupr => 0x080,
+        Family::Isenabler => 0x100,
+        Family::Icenabler => 0x180,
+        Family::Ispendr => 0x200,
+        Family::Icpendr => 0x280,
+        Family::Isactiver => 0x300,
+        Family::Icactiver => 0x380,
+        Family::Igrpmodr => 0xD00,
+        Family::Icfgr => 0xC00,
     }
-    base + 4 * n
+}
+
+// The same for its extended words.
+fn extended_base(family: Family) -> u32
+    ensures { result ≤ 0x3400 }
+{
+    match family {
+        Family::Igroupr => 0x1000,
+        Family::Isenabler => 0x1200,
+        Family::Icenabler => 0x1400,
+        Family::Ispendr => 0x1600,
+        Family::Icpendr => 0x1800,
+        Family::Isactiver => 0x1A00,
+        Family::Icactiver => 0x1C00,
+        Family::Igrpmodr => 0x3400,
+        Family::Icfgr => 0x3000,
+    }
+}
+
+// The offset of a home's word in a family; ICFGR has two words for each.
+pub fn offset_of(at: Home, family: Family) -> u32 {
+    let first = match at.column {
+        Column::Extended => extended_base(family),
+        Column::Dist | Column::Redist => base(family),
+    };
+    match family {
+        Family::Icfgr => first + 4 * (2 * at.word + at.bit / 16),
+        _ => first + 4 * at.word,
+    }
 }

@@ -5,5 +5,6 @@
 pub mod asked;
 pub mod draws;
 mod edges;
+pub mod lent;
 pub mod random;
 pub mod table;
