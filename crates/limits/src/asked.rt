@@ -1,72 +1,144 @@
-// One request on lent tables, and its answer written. Presence words are all alike: each is the word `present`.
-use crate::print::answer;
-use std::io;
-use types::{Access, Event, Shape};
+// What is built and the four tables that it lends; the requests that are put to them, and how a shape and an answer are written.
+use answers::{status_of, value_of};
+use std::fmt;
+use types::{Access, Answer, Event, Shape};
 
 // Words of presence: every interrupt, and every one but the first of each word.
 pub const ALL: u32 = 4294967295;
 
 pub const FEWER: u32 = 4294967294;
 
-// The bench shape.
-pub fn bench() -> Shape {
-    Shape::new(9, 4, 1, true)
+pub const BENCH: Shape = Shape {
+    lines: 9,
+    espi: 4,
+    eppi: 1,
+    mbis: true,
+};
+
+// A shape, as written.
+#[derive(Clone, Copy)]
+pub struct Built(pub Shape);
+
+impl fmt::Display for Built {
+    fn fmt<W: fmt::Write>(&self, f: &mut fmt::Formatter<W>) -> fmt::Result {
+        let shape = self.0;
+        write!(
+            f,
+            " lines={} espi={} eppi={}",
+            shape.lines, shape.espi, shape.eppi
+        )
+    }
 }
 
-pub fn access(
-    rt: &impl Print,
-    dist: &mut [u8],
-    redist: &mut [u8],
-    present: u32,
-    shape: Shape,
-    request: Access,
-) -> io::Result<()> {
-    let dist_presence = [present; 63];
-    let redist_presence = [present; 3];
-    answer(
-        rt,
-        controller::access(
-            dist,
-            redist,
-            &dist_presence,
-            &redist_presence,
-            shape,
-            request,
-        ),
-    )
+// An answer, as written.
+#[derive(Clone, Copy)]
+pub struct Said(Answer);
+
+impl fmt::Display for Said {
+    fn fmt<W: fmt::Write>(&self, f: &mut fmt::Formatter<W>) -> fmt::Result {
+        write!(
+            f,
+            " status={} value={}",
+            status_of(self.0),
+            value_of(self.0)
+        )
+    }
 }
 
+// An event on tables of any length.
 pub fn event(
-    rt: &impl Print,
     dist: &mut [u8],
     redist: &mut [u8],
-    present: u32,
+    dist_presence: &[u32],
+    redist_presence: &[u32],
     shape: Shape,
     intid: u32,
     event: Event,
-) -> io::Result<()> {
-    let dist_presence = [present; 63];
-    let redist_presence = [present; 3];
-    answer(
-        rt,
-        controller::event(
-            dist,
-            redist,
-            &dist_presence,
-            &redist_presence,
-            shape,
-            intid,
-            event,
-        ),
-    )
+) -> Said {
+    Said(controller::event(
+        dist,
+        redist,
+        dist_presence,
+        redist_presence,
+        shape,
+        intid,
+        event,
+    ))
 }
 
-// A reset, with every interrupt present.
-pub fn reset(rt: &impl Print, dist: &mut [u8], redist: &mut [u8], shape: Shape) -> io::Result<()> {
-    let dist_presence = [ALL; 63];
-    let redist_presence = [ALL; 3];
-    answer(
-        rt,
-        controller::reset(dist, redist, &dist_presence, &redist_presence, shape),
-    )
+#[derive(Drop)]
+pub struct Machine {
+    shape: Shape,
+    dist: [u8; 2012],
+    redist: [u8; 96],
+    dist_presence: [u32; 63],
+    redist_presence: [u32; 3],
+}
+
+impl Machine {
+    // All records 0. Presence words are all alike: each is the word `present`.
+    pub fn new(shape: Shape, present: u32) -> Machine {
+        Machine {
+            shape,
+            dist: [0; 2012],
+            redist: [0; 96],
+            dist_presence: [present; 63],
+            redist_presence: [present; 3],
+        }
+    }
+
+    // The bench shape with every interrupt; all records 0 but SPI 300's, which is slot 268.
+    pub fn with_record(record: u8) -> Machine {
+        let mut machine = Machine::new(BENCH, ALL);
+        machine.dist[268] = record;
+        machine
+    }
+
+    pub fn access(&mut self, request: Access) -> Said {
+        let Machine {
+            shape,
+            dist,
+            redist,
+            dist_presence,
+            redist_presence,
+        } = self;
+        Said(controller::access(
+            dist,
+            redist,
+            dist_presence,
+            redist_presence,
+            *shape,
+            request,
+        ))
+    }
+
+    pub fn event(&mut self, intid: u32, what: Event) -> Said {
+        let Machine {
+            shape,
+            dist,
+            redist,
+            dist_presence,
+            redist_presence,
+        } = self;
+        event(
+            dist,
+            redist,
+            dist_presence,
+            redist_presence,
+            *shape,
+            intid,
+            what,
+        )
+    }
+
+    pub fn reset(&mut self) -> Said {
+        let Machine {
+            shape,
+            dist,
+            redist,
+            dist_presence,
+            redist_presence,
+        } = self;
+        Said(controller::reset(dist, redist, dist_presence, redist_presence, *shape))
+    }
 }

@@ -1,77 +1,37 @@
-// Single requests, each on tables of its own: records 0, and every interrupt present but where a word of presence says otherwise.
-use crate::asked::{ALL, FEWER, access, bench, event};
-use crate::print::{number, words};
+// Single requests, each on tables of its own.
+use crate::asked::{ALL, BENCH, Built, FEWER, Machine};
 use std::io;
 use types::{Access, Event, Frame, Shape, Side};
 
-// The wire goes low, on tables of its own.
-fn low(rt: &impl Print, present: u32, shape: Shape, intid: u32) -> io::Result<()> {
-    let mut dist = [0u8; 2012];
-    let mut redist = [0u8; 96];
-    event(
-        rt,
-        &mut dist,
-        &mut redist,
-        present,
-        shape,
-        intid,
-        Event::Wire(false),
+// A wire that goes low.
+fn low(rt: &impl Print, shape: Shape, present: u32, intid: u32) -> io::Result<()> {
+    let answer = Machine::new(shape, present).event(intid, Event::Wire(false));
+    println!(rt; "wire{} intid={intid}{answer}", Built(shape))
+}
+
+// With all interrupts present.
+pub fn wire(rt: &impl Print, shape: Shape, intid: u32) -> io::Result<()> {
+    low(rt, shape, ALL, intid)
+}
+
+// With the bench shape, the first interrupt of each word missing.
+pub fn fewer_wire(rt: &impl Print, intid: u32) -> io::Result<()> {
+    low(rt, BENCH, FEWER, intid)
+}
+
+// A read of the Non-secure side, with the bench shape.
+pub fn read(rt: &impl Print, frame: Frame, width: u32, offset: u32) -> io::Result<()> {
+    let request = Access::read(frame, Side::NonSecure, width, offset);
+    let answer = Machine::new(BENCH, ALL).access(request);
+    println!(rt;
+        "read frame={} width={width} offset={offset}{answer}",
+        frame as u32
     )
 }
 
-// A read with the bench shape, on tables of its own.
-fn read(
-    rt: &impl Print,
-    present: u32,
-    frame: Frame,
-    side: Side,
-    width: u32,
-    offset: u32,
-) -> io::Result<()> {
-    let mut dist = [0u8; 2012];
-    let mut redist = [0u8; 96];
-    let request = Access::read(frame, side, width, offset);
-    access(rt, &mut dist, &mut redist, present, bench(), request)
-}
-
-pub fn say_wire(rt: &impl Print, lines: u32, espi: u32, eppi: u32, intid: u32) -> io::Result<()> {
-    number(rt, b"wire lines=", lines)?;
-    number(rt, b" espi=", espi)?;
-    number(rt, b" eppi=", eppi)?;
-    number(rt, b" intid=", intid)
-}
-
-// A wire that goes low, with all interrupts present.
-pub fn wire(rt: &impl Print, lines: u32, espi: u32, eppi: u32, intid: u32) -> io::Result<()> {
-    say_wire(rt, lines, espi, eppi, intid)?;
-    low(rt, ALL, Shape::new(lines, espi, eppi, true), intid)
-}
-
-// The same with the bench shape, the first interrupt of each word missing.
-pub fn fewer_wire(rt: &impl Print, intid: u32) -> io::Result<()> {
-    say_wire(rt, 9, 4, 1, intid)?;
-    low(rt, FEWER, bench(), intid)
-}
-
-fn say_read(rt: &impl Print, frame: u32, width: u32, offset: u32) -> io::Result<()> {
-    number(rt, b"read frame=", frame)?;
-    number(rt, b" width=", width)?;
-    number(rt, b" offset=", offset)
-}
-
-// Reads of the Non-secure side.
-pub fn read_dist(rt: &impl Print, width: u32, offset: u32) -> io::Result<()> {
-    say_read(rt, 0, width, offset)?;
-    read(rt, ALL, Frame::Dist, Side::NonSecure, width, offset)
-}
-
-pub fn read_redist(rt: &impl Print, width: u32, offset: u32) -> io::Result<()> {
-    say_read(rt, 1, width, offset)?;
-    read(rt, ALL, Frame::Redist, Side::NonSecure, width, offset)
-}
-
 // ICFGR0, the first interrupt of each word missing.
-pub fn fewer_edges(rt: &impl Print, label: &[u8], side: Side) -> io::Result<()> {
-    words(rt, label)?;
-    read(rt, FEWER, Frame::Redist, side, 4, 0xC00)
+pub fn fewer_edges(rt: &impl Print, label: &str, side: Side) -> io::Result<()> {
+    let request = Access::read(Frame::Redist, side, 4, 0xC00);
+    let answer = Machine::new(BENCH, FEWER).access(request);
+    println!(rt; "{label}{answer}")
 }

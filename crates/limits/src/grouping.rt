@@ -1,154 +1,118 @@
 // Document 02, CR 2: an interrupt is Non-secure exactly when group is 1, whatever the modifier. Each case is a record of SPI 300, which
-// is slot 268 and bit 12 of word 9, and what is asked then; all other records are 0. 192 is both bits, 64 group and 128 modifier alone.
-use crate::asked::{ALL, access, bench, event};
-use crate::print::{number, words};
+// is bit 12 of word 9, and what is asked then; all other records are 0. 192 is both bits, 64 group and 128 modifier alone.
+use crate::asked::{Machine, Said};
 use std::io;
 use types::{Access, Event, Frame, Side};
 
-const IGROUPR9: u32 = 0x0A4;
-
-const ISENABLER9: u32 = 0x124;
-
-const ISPENDR9: u32 = 0x224;
-
-const ISACTIVER9: u32 = 0x324;
-
-const IGRPMODR9: u32 = 0xD24;
-
-fn read(side: Side, at: u32) -> Access {
-    Access::read(Frame::Dist, side, 4, at)
+// A register word of the Distributor.
+#[derive(Clone, Copy)]
+struct Register {
+    name: &'static str,
+    offset: u32,
 }
 
-fn say(rt: &impl Print, record: u8, label: &[u8]) -> io::Result<()> {
-    number(rt, b"record=", record as u32)?;
-    words(rt, label)
+const IGROUPR9: Register = Register {
+    name: "IGROUPR9",
+    offset: 0x0A4,
+};
+
+const ISENABLER9: Register = Register {
+    name: "ISENABLER9",
+    offset: 0x124,
+};
+
+const ISPENDR9: Register = Register {
+    name: "ISPENDR9",
+    offset: 0x224,
+};
+
+const ISACTIVER9: Register = Register {
+    name: "ISACTIVER9",
+    offset: 0x324,
+};
+
+const IGRPMODR9: Register = Register {
+    name: "IGRPMODR9",
+    offset: 0xD24,
+};
+
+fn name_of(side: Side) -> &'static str {
+    match side {
+        Side::Secure => "Secure",
+        Side::NonSecure => "Non-secure",
+    }
+}
+
+impl Register {
+    fn read(self, machine: &mut Machine, side: Side) -> Said {
+        machine.access(Access::read(Frame::Dist, side, 4, self.offset))
+    }
+
+    fn write(self, machine: &mut Machine, side: Side, value: u32) -> Said {
+        machine.access(Access::write(Frame::Dist, side, 4, self.offset, value))
+    }
 }
 
 // What a side reads.
-fn shown(rt: &impl Print, record: u8, label: &[u8], side: Side, at: u32) -> io::Result<()> {
-    let mut dist = [0u8; 2012];
-    let mut redist = [0u8; 96];
-    dist[268] = record;
-    say(rt, record, label)?;
-    access(rt, &mut dist, &mut redist, ALL, bench(), read(side, at))
+fn shown(rt: &impl Print, record: u8, side: Side, register: Register) -> io::Result<()> {
+    let name = register.name;
+    let answer = register.read(&mut Machine::with_record(record), side);
+    println!(rt; "record={record} {} reads {name}{answer}", name_of(side))
 }
 
 // What the Non-secure side then reads.
-fn then(
-    rt: &impl Print,
-    dist: &mut [u8],
-    redist: &mut [u8],
-    name: &[u8],
-    at: u32,
-) -> io::Result<()> {
-    words(rt, b"then Non-secure reads ")?;
-    words(rt, name)?;
-    access(rt, dist, redist, ALL, bench(), read(Side::NonSecure, at))
+fn then(rt: &impl Print, machine: &mut Machine, register: Register) -> io::Result<()> {
+    let name = register.name;
+    let answer = register.read(machine, Side::NonSecure);
+    println!(rt; "then Non-secure reads {name}{answer}")
 }
 
-// A write, and what the Non-secure side then reads.
-fn written(
-    rt: &impl Print,
-    record: u8,
-    label: &[u8],
-    request: Access,
-    name: &[u8],
-    at: u32,
-) -> io::Result<()> {
-    let mut dist = [0u8; 2012];
-    let mut redist = [0u8; 96];
-    dist[268] = record;
-    say(rt, record, label)?;
-    access(rt, &mut dist, &mut redist, ALL, bench(), request)?;
-    then(rt, &mut dist, &mut redist, name, at)
+// The Non-secure side writes 300's bit, and what it then reads.
+fn set(rt: &impl Print, record: u8, register: Register) -> io::Result<()> {
+    let name = register.name;
+    let mut machine = Machine::with_record(record);
+    let answer = register.write(&mut machine, Side::NonSecure, 4096);
+    println!(rt; "record={record} Non-secure writes {name}{answer}")?;
+    then(rt, &mut machine, register)
 }
 
-// The Non-secure side activates or deactivates 300, and what it then reads.
-fn happened(rt: &impl Print, record: u8, label: &[u8], what: Event) -> io::Result<()> {
-    let mut dist = [0u8; 2012];
-    let mut redist = [0u8; 96];
-    dist[268] = record;
-    say(rt, record, label)?;
-    event(rt, &mut dist, &mut redist, ALL, bench(), 300, what)?;
-    then(rt, &mut dist, &mut redist, b"ISACTIVER9", ISACTIVER9)
+// The Secure side writes one of the two bits; 300 is enabled. What the Non-secure side then reads.
+fn regroup(rt: &impl Print, record: u8, register: Register, value: u32) -> io::Result<()> {
+    let name = register.name;
+    let mut machine = Machine::with_record(record);
+    let answer = register.write(&mut machine, Side::Secure, value);
+    println!(rt; "record={record} Secure writes {name} with {value}{answer}")?;
+    then(rt, &mut machine, ISENABLER9)
 }
 
 fn activated(rt: &impl Print, record: u8) -> io::Result<()> {
-    let what = Event::Activate(Side::NonSecure);
-    happened(rt, record, b" Non-secure activates 300", what)
+    let mut machine = Machine::with_record(record);
+    let answer = machine.event(300, Event::Activate(Side::NonSecure));
+    println!(rt; "record={record} Non-secure activates 300{answer}")?;
+    then(rt, &mut machine, ISACTIVER9)
 }
 
 fn deactivated(rt: &impl Print, record: u8) -> io::Result<()> {
-    let what = Event::Deactivate(Side::NonSecure);
-    happened(rt, record, b" Non-secure deactivates 300", what)
-}
-
-// The stored bits read back to the Secure side, and to no other.
-fn stored(rt: &impl Print) -> io::Result<()> {
-    shown(rt, 192, b" Secure reads IGROUPR9", Side::Secure, IGROUPR9)?;
-    shown(rt, 192, b" Secure reads IGRPMODR9", Side::Secure, IGRPMODR9)?;
-    shown(
-        rt,
-        192,
-        b" Non-secure reads IGROUPR9",
-        Side::NonSecure,
-        IGROUPR9,
-    )?;
-    shown(
-        rt,
-        192,
-        b" Non-secure reads IGRPMODR9",
-        Side::NonSecure,
-        IGRPMODR9,
-    )
-}
-
-// By the Non-secure side; 4096 is 300's bit.
-fn set(rt: &impl Print, record: u8, label: &[u8], name: &[u8], at: u32) -> io::Result<()> {
-    let request = Access::write(Frame::Dist, Side::NonSecure, 4, at, 4096);
-    written(rt, record, label, request, name, at)
-}
-
-// Writes of one of the two bits by the Secure side; 300 is enabled.
-fn regroup(rt: &impl Print, record: u8, label: &[u8], at: u32, value: u32) -> io::Result<()> {
-    let request = Access::write(Frame::Dist, Side::Secure, 4, at, value);
-    written(rt, record, label, request, b"ISENABLER9", ISENABLER9)
+    let mut machine = Machine::with_record(record);
+    let answer = machine.event(300, Event::Deactivate(Side::NonSecure));
+    println!(rt; "record={record} Non-secure deactivates 300{answer}")?;
+    then(rt, &mut machine, ISACTIVER9)
 }
 
 pub fn run(rt: &impl Print) -> io::Result<()> {
-    stored(rt)?;
-    set(
-        rt,
-        192,
-        b" Non-secure writes ISENABLER9",
-        b"ISENABLER9",
-        ISENABLER9,
-    )?;
-    set(
-        rt,
-        192,
-        b" Non-secure writes ISPENDR9",
-        b"ISPENDR9",
-        ISPENDR9,
-    )?;
-    set(
-        rt,
-        128,
-        b" Non-secure writes ISPENDR9",
-        b"ISPENDR9",
-        ISPENDR9,
-    )?;
+    // The stored bits read back to the Secure side, and to no other.
+    shown(rt, 192, Side::Secure, IGROUPR9)?;
+    shown(rt, 192, Side::Secure, IGRPMODR9)?;
+    shown(rt, 192, Side::NonSecure, IGROUPR9)?;
+    shown(rt, 192, Side::NonSecure, IGRPMODR9)?;
+    set(rt, 192, ISENABLER9)?;
+    set(rt, 192, ISPENDR9)?;
+    set(rt, 128, ISPENDR9)?;
     activated(rt, 195)?;
     activated(rt, 131)?;
     deactivated(rt, 209)?;
     deactivated(rt, 145)?;
-    regroup(rt, 193, b" Secure writes IGRPMODR9 with 0", IGRPMODR9, 0)?;
-    regroup(
-        rt,
-        65,
-        b" Secure writes IGRPMODR9 with 4096",
-        IGRPMODR9,
-        4096,
-    )?;
-    regroup(rt, 193, b" Secure writes IGROUPR9 with 0", IGROUPR9, 0)
+    regroup(rt, 193, IGRPMODR9, 0)?;
+    regroup(rt, 65, IGRPMODR9, 4096)?;
+    regroup(rt, 193, IGROUPR9, 0)
 }

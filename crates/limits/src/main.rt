@@ -2,97 +2,93 @@
 // the request and its answer. The expected output (stdout) is written from the two documents and not from this program.
 #![tactic(auto)]
 
+use asked::BENCH;
 use std::io;
-use types::Side;
+use types::{Frame, Shape, Side};
 
 mod asked;
 mod fresh;
 mod grouping;
 mod lent;
-mod print;
 
-// Wires that go low: lines, espi, eppi, and the INTID. What a shape brings, and what is one past it.
+// Wires that go low. What a shape brings, and what is one past it.
 fn bench(rt: &impl Print) -> io::Result<()> {
-    fresh::wire(rt, 9, 4, 1, 319)?;
-    fresh::wire(rt, 9, 4, 1, 320)?;
-    fresh::wire(rt, 9, 4, 1, 4223)?;
-    fresh::wire(rt, 9, 4, 1, 4224)?;
-    fresh::wire(rt, 9, 4, 1, 1087)?;
-    fresh::wire(rt, 9, 4, 1, 1088)?;
-    fresh::wire(rt, 9, 4, 1, 65836)?;
-    fresh::wire(rt, 9, 4, 1, 4294967295)?;
-    fresh::wire(rt, 9, 4, 1, 15)?;
-    fresh::wire(rt, 9, 4, 1, 16)
+    for intid in [319, 320, 4223, 4224, 1087, 1088, 65836, 4294967295, 15, 16] {
+        fresh::wire(rt, BENCH, intid)?;
+    }
+    Ok(())
 }
 
 fn full(rt: &impl Print) -> io::Result<()> {
-    fresh::wire(rt, 31, 32, 2, 1019)?;
-    fresh::wire(rt, 31, 32, 2, 1020)?;
-    fresh::wire(rt, 31, 32, 2, 1055)?;
-    fresh::wire(rt, 31, 32, 2, 1119)?;
-    fresh::wire(rt, 31, 32, 2, 1120)?;
-    fresh::wire(rt, 31, 32, 2, 4095)?;
-    fresh::wire(rt, 31, 32, 2, 5119)?;
-    fresh::wire(rt, 31, 32, 2, 5120)
+    for intid in [1019, 1020, 1055, 1119, 1120, 4095, 5119, 5120] {
+        fresh::wire(rt, Shape::new(31, 32, 2, true), intid)?;
+    }
+    Ok(())
 }
 
 fn empty(rt: &impl Print) -> io::Result<()> {
-    fresh::wire(rt, 0, 0, 0, 31)?;
-    fresh::wire(rt, 0, 0, 0, 32)?;
-    fresh::wire(rt, 0, 0, 0, 1056)?;
-    fresh::wire(rt, 0, 0, 0, 4096)
+    for intid in [31, 32, 1056, 4096] {
+        fresh::wire(rt, Shape::new(0, 0, 0, true), intid)?;
+    }
+    Ok(())
 }
 
-// Shape numbers off their limits.
+// Shape numbers off their limits: lines, espi, eppi.
 fn off(rt: &impl Print) -> io::Result<()> {
-    fresh::wire(rt, 32, 4, 1, 319)?;
-    fresh::wire(rt, 9, 33, 1, 319)?;
-    fresh::wire(rt, 9, 4, 3, 319)?;
-    fresh::wire(rt, 4294967295, 4, 1, 319)?;
-    fresh::wire(rt, 9, 4294967295, 1, 319)?;
-    fresh::wire(rt, 9, 4, 4294967295, 319)
+    for (lines, espi, eppi) in [
+        (32, 4, 1),
+        (9, 33, 1),
+        (9, 4, 3),
+        (4294967295, 4, 1),
+        (9, 4294967295, 1),
+        (9, 4, 4294967295),
+    ] {
+        fresh::wire(rt, Shape::new(lines, espi, eppi, true), 319)?;
+    }
+    Ok(())
 }
 
 // Non-secure reads of the Distributor frame: width, offset.
 fn dist(rt: &impl Print) -> io::Result<()> {
-    fresh::read_dist(rt, 2, 0x40)?;
-    fresh::read_dist(rt, 2, 0x42)?;
-    fresh::read_dist(rt, 2, 0x224)?;
-    fresh::read_dist(rt, 1, 0x40)?;
-    fresh::read_dist(rt, 1, 0x224)?;
-    fresh::read_dist(rt, 4, 0x226)?;
-    fresh::read_dist(rt, 4, 0x10000)?;
-    fresh::read_dist(rt, 4, 0x0000)?;
-    fresh::read_dist(rt, 4, 0xFFFC)
-}
-
-fn dist_more(rt: &impl Print) -> io::Result<()> {
-    fresh::read_dist(rt, 4, 0x10001)?;
-    fresh::read_dist(rt, 3, 0x10001)?;
-    fresh::read_dist(rt, 2, 0x41)?;
-    fresh::read_dist(rt, 2, 0x44)?;
-    fresh::read_dist(rt, 2, 0x004)?;
-    fresh::read_dist(rt, 4, 0x004)?;
-    fresh::read_dist(rt, 4294967295, 0)?;
-    fresh::read_dist(rt, 4, 4294967292)
+    for (width, offset) in [
+        (2, 0x40),
+        (2, 0x42),
+        (2, 0x224),
+        (1, 0x40),
+        (1, 0x224),
+        (4, 0x226),
+        (4, 0x10000),
+        (4, 0x0000),
+        (4, 0xFFFC),
+        (4, 0x10001),
+        (3, 0x10001),
+        (2, 0x41),
+        (2, 0x44),
+        (2, 0x004),
+        (4, 0x004),
+        (4294967295, 0),
+        (4, 4294967292),
+    ] {
+        fresh::read(rt, Frame::Dist, width, offset)?;
+    }
+    Ok(())
 }
 
 // Non-secure reads of the Redistributor frame: width, offset.
 fn redist(rt: &impl Print) -> io::Result<()> {
-    fresh::read_redist(rt, 2, 0x40)?;
-    fresh::read_redist(rt, 2, 0x80)?;
-    fresh::read_redist(rt, 4, 0x08C)?;
-    fresh::read_redist(rt, 4, 0xC14)?;
-    fresh::read_redist(rt, 4, 0xC18)
+    for (width, offset) in [(2, 0x40), (2, 0x80), (4, 0x08C), (4, 0xC14), (4, 0xC18)] {
+        fresh::read(rt, Frame::Redist, width, offset)?;
+    }
+    Ok(())
 }
 
 // An SGI and an SPI whose presence bits are 0 are missing. The Secure side reads the other SGIs as edge.
 fn missing(rt: &impl Print) -> io::Result<()> {
-    fresh::fewer_wire(rt, 0)?;
-    fresh::fewer_wire(rt, 1)?;
-    fresh::fewer_wire(rt, 32)?;
-    fresh::fewer_edges(rt, b"ICFGR0", Side::Secure)?;
-    fresh::fewer_edges(rt, b"ICFGR0 for the Non-secure side", Side::NonSecure)
+    for intid in [0, 1, 32] {
+        fresh::fewer_wire(rt, intid)?;
+    }
+    fresh::fewer_edges(rt, "ICFGR0", Side::Secure)?;
+    fresh::fewer_edges(rt, "ICFGR0 for the Non-secure side", Side::NonSecure)
 }
 
 fn main(rt: HostRuntime) -> io::Result<()> {
@@ -101,7 +97,6 @@ fn main(rt: HostRuntime) -> io::Result<()> {
     empty(&rt)?;
     off(&rt)?;
     dist(&rt)?;
-    dist_more(&rt)?;
     redist(&rt)?;
     lent::run(&rt)?;
     lent::lengths(&rt)?;
