@@ -109,37 +109,6 @@ fn shape_off(off: Option<Off>, shape: Shape) -> Shape {
     )
 }
 
-// A step on the tables and the shape as they are lent for it.
-fn put(
-    dist: &mut [u8],
-    redist: &mut [u8],
-    dist_presence: &[u32],
-    redist_presence: &[u32],
-    shape: Shape,
-    step: Step,
-) -> Answer {
-    match step {
-        Step::Access(access) => controller::access(
-            dist,
-            redist,
-            dist_presence,
-            redist_presence,
-            shape,
-            access,
-        ),
-        Step::Event(intid, event) => controller::event(
-            dist,
-            redist,
-            dist_presence,
-            redist_presence,
-            shape,
-            intid,
-            event,
-        ),
-        Step::Reset => controller::reset(dist, redist, dist_presence, redist_presence, shape),
-    }
-}
-
 impl Tables {
     // One step. What `off` names is off its limit for this step alone.
     pub fn ask(&mut self, shape: Shape, off: Option<Off>, step: Step) -> Answer {
@@ -147,22 +116,35 @@ impl Tables {
         let redist_bytes = lent_of(off, Part::Redist, 96);
         let dist_words = lent_of(off, Part::DistPresence, 63);
         let redist_words = lent_of(off, Part::RedistPresence, 3);
+        let shape = shape_off(off, shape);
         let Tables {
             dist,
             redist,
             dist_presence,
             redist_presence,
         } = self;
-        // as slices, since a part of an array that a struct lends is not lent on
-        let dist: &mut [u8] = dist;
-        let redist: &mut [u8] = redist;
-        put(
-            &mut dist[..dist_bytes],
-            &mut redist[..redist_bytes],
-            &dist_presence[..dist_words],
-            &redist_presence[..redist_words],
-            shape_off(off, shape),
-            step,
-        )
+        // First as slices: the check does not follow a part of an array that a struct lends.
+        let (dist, redist): (&mut [u8], &mut [u8]) = (dist, redist);
+        let dist = &mut dist[..dist_bytes];
+        let redist = &mut redist[..redist_bytes];
+        let dist_presence = &dist_presence[..dist_words];
+        let redist_presence = &redist_presence[..redist_words];
+        match step {
+            Step::Access(access) => {
+                controller::access(dist, redist, dist_presence, redist_presence, shape, access)
+            }
+            Step::Event(intid, event) => {
+                controller::event(
+                    dist,
+                    redist,
+                    dist_presence,
+                    redist_presence,
+                    shape,
+                    intid,
+                    event,
+                )
+            }
+            Step::Reset => controller::reset(dist, redist, dist_presence, redist_presence, shape),
+        }
     }
 }

@@ -14,10 +14,10 @@ pub enum Column {
 
 // A register word and a bit of it.
 #[derive(Clone, Copy)]
-pub struct Home {
-    pub column: Column,
-    pub word: u32,
-    pub bit: u32,
+pub(crate) struct Home {
+    pub(crate) column: Column,
+    pub(crate) word: u32,
+    pub(crate) bit: u32,
     ghost word_bound: { word < 32 },
     ghost bit_bound: { bit < 32 },
 }
@@ -54,7 +54,7 @@ impl Home {
     }
 
     // The INTID of the bit; for Distributor word 31 it may be one that never exists.
-    pub fn intid(self) -> u32 {
+    pub(crate) fn intid(self) -> u32 {
         let first = match self.column {
             Column::Dist => 0,
             Column::Extended => 4096,
@@ -67,7 +67,7 @@ impl Home {
 
 // How the record bytes are filled: all 0, any that are Non-secure, or any.
 #[derive(Clone, Copy)]
-pub enum Records {
+pub(crate) enum Records {
     Zero,
     NonSecure,
     Any,
@@ -83,7 +83,7 @@ impl Records {
     }
 
     // A record byte, of a number of the stream.
-    pub fn byte(self, x: u64) -> u8 {
+    pub(crate) fn byte(self, x: u64) -> u8 {
         let any = ((x >> 24) & 0xFF) as u8;
         match self {
             Records::Zero => 0,
@@ -95,7 +95,7 @@ impl Records {
 
 // How the presence words are filled: with all interrupts, about half of them, or three of four.
 #[derive(Clone, Copy)]
-pub enum Presence {
+pub(crate) enum Presence {
     All,
     Half,
     Most,
@@ -111,7 +111,7 @@ impl Presence {
     }
 
     // A presence word, of a number of the stream.
-    pub fn word(self, x: u64) -> u32 {
+    pub(crate) fn word(self, x: u64) -> u32 {
         let any = word(x >> 8);
         match self {
             Presence::All => u32::MAX,
@@ -124,11 +124,11 @@ impl Presence {
 #[derive(Clone, Copy)]
 pub struct Table {
     pub shape: Shape,
-    pub homes: [Home; 4],
-    pub records: Records,
-    pub presence: Presence,
+    pub(crate) homes: [Home; 4],
+    pub(crate) records: Records,
+    pub(crate) presence: Presence,
     // The stream after all this was drawn.
-    pub x: u64,
+    pub(crate) x: u64,
     ghost lines_bound: { shape.lines ≤ 31 },
     ghost espi_bound: { shape.espi ≤ 32 },
     ghost eppi_bound: { shape.eppi ≤ 2 },
