@@ -5,27 +5,14 @@
 // short is not taken for a whole one. It is also what `main` answers, so the exit status is 1.
 #![tactic(auto)]
 
-ghost use Rattle.std.specs.Prelude.{◌≡◌, ◌≤◌, length};
+ghost use Rattle.std.specs.Prelude.{◌≤◌, length};
 
-use replay_state::{Ended, State, finish, start};
+use replay_state::{State, finish, start};
 use replay_stream::piece::feed;
-use replay_tables::{dist_records, redist_records};
+use replay_tables::records;
 use std::io;
 use std::io::Read;
-
-// What a turn gives: the state after it, and whether there may be more to read.
-#[derive(Clone, Copy)]
-struct After {
-    state: State,
-    more: bool,
-}
-
-// 65,536 zeros, of which a caller needs to know no more than how many there are.
-fn large_buffer() -> [u8; 65536]
-    ensures { 65536 ≡ length result }
-{
-    [0; 65536]
-}
+use std::ops::ControlFlow;
 
 // Takes all of a piece, and writes its output whenever the buffer has no more room for it.
 fn take(
@@ -36,26 +23,21 @@ fn take(
     out: &mut [u8],
     s: State,
     piece: &[u8],
-) -> io::Result<After>
+) -> io::Result<State>
     requires { 128 ≤ length out.old }
 {
     let mut state = s;
-    let mut from: usize = 0;
-    while from < piece.len() {
-        let fed = feed(dist, redist, line, out, state, &piece[from..]);
+    let mut rest = piece;
+    while !rest.is_empty() {
+        let fed = feed(dist, redist, line, out, state, rest);
         state = fed.state;
-        from += fed.used;
-        let end = state.end;
-        rt.write_all(&out[..end])?;
+        rest = &rest[fed.used..];
+        rt.write_all(&out[..state.end])?;
     }
-    let at = state.at;
-    Ok(After {
-        state,
-        more: !at.over,
-    })
+    Ok(state)
 }
 
-// Reads once, and takes what came.
+// Reads once, and takes what came. Breaks where there is no more to read: at the input's end, and after a bad line.
 fn turn(
     rt: &impl Print,
     input: &mut impl Read,
@@ -63,24 +45,25 @@ fn turn(
     redist: &mut [u8],
     line: &mut [u8],
     s: State,
-) -> io::Result<After> {
-    let mut buffer = large_buffer();
+) -> io::Result<ControlFlow<State, State>> {
+    let mut buffer = records::<65536>();
     let n = input.read(&mut buffer)?;
     if n == 0 {
-        return Ok(After {
-            state: s,
-            more: false,
-        });
+        return Ok(ControlFlow::Break(s));
     }
-    let mut out = large_buffer();
-    take(rt, dist, redist, line, &mut out, s, &buffer[..n])
+    let mut out = records::<65536>();
+    let state = take(rt, dist, redist, line, &mut out, s, &buffer[..n])?;
+    if state.at.over {
+        Ok(ControlFlow::Break(state))
+    } else {
+        Ok(ControlFlow::Continue(state))
+    }
 }
 
 // The input has ended.
 fn close(rt: &(impl Print + Eprint), line: &[u8], s: State) -> io::Result<()> {
     let mut out = [0u8; 4096];
-    let ended = finish(&mut out, line, s);
-    let Ended::Said(n) = ended else {
+    let Some(n) = finish(&mut out, line, s) else {
         return Ok(());
     };
     let written = rt.write_all(&out[..n]);
@@ -100,27 +83,22 @@ fn run(
 ) -> io::Result<()> {
     let mut input = rt.reader();
     let mut state = start();
-    let mut turns = u64::MAX;
-    while turns > 0 {
-        let after = match turn(rt, &mut input, dist, redist, line, state) {
-            Ok(after) => after,
+    for _ in 0..u64::MAX {
+        match turn(rt, &mut input, dist, redist, line, state) {
+            Ok(ControlFlow::Continue(next)) => state = next,
+            Ok(ControlFlow::Break(last)) => return close(rt, line, last),
             Err(error) => {
                 rt.eprintln("replay: a read or a write failed")?;
                 return Err(error);
             }
-        };
-        state = after.state;
-        if !after.more {
-            return close(rt, line, state);
         }
-        turns -= 1;
     }
     Ok(())
 }
 
 fn main(rt: HostRuntime) -> io::Result<()> {
-    let mut dist = dist_records();
-    let mut redist = redist_records();
+    let mut dist = records::<2012>();
+    let mut redist = records::<96>();
     let mut line = [0u8; 18];
     run(&rt, &mut dist, &mut redist, &mut line)
 }

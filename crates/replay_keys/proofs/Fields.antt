@@ -5,7 +5,7 @@ use mathlib.Core.List.{List}
 use Prim.Native.Nat.{ℕ, ◌+◌, ◌<◌, ◌≤◌}
 use native.Mathlib.Omega.{arith}
 use lib.ListN.{length, drop, length-drop}
-use Rattle.text.specs.declared.Number.TheVariants.{Bad}
+use Rattle.std.specs.Prelude.{Option, None}
 use Rattle.text.specs.Text.{bytes, begins_with}
 use Rattle.text.proofs.Texts.{different}
 use Rattle.text.proofs.Numbers.{number_long}
@@ -25,21 +25,21 @@ rank_small Width = omega arith
 rank_small Offset = omega arith
 rank_small Value = omega arith
 
-same_either : (b : Bool) → cond b Bad Bad ≡ Bad
+same_either : (b : Bool) → cond {A = Option ℕ} b None None ≡ None
 same_either true = refl
 same_either false = refl
 
-long_number : (most : ℕ) (key t : List ℕ) → length key + 11 ≤ length t → number_at most key t ≡ Bad
+long_number : (most : ℕ) (key t : List ℕ) → length key + 11 ≤ length t → number_at most key t ≡ None
 unfolding number_at
 long_number most key t h =
     rw (number_long (drop (length key) t) (simp length-drop (omega arith))) (same_either (begins_with key t))
 
-long_word : (a b t : List ℕ) → length a < length t → length b < length t → one_of a b t ≡ Bad
+long_word : (a b t : List ℕ) → length a < length t → length b < length t → one_of a b t ≡ None
 unfolding one_of
 long_word a b t h k = rw (different a t (λ e. omega arith), different b t (λ e. omega arith))
 
 -- the longest good line is offset=4294967295
-pub long_field : (k : Key) (t : List ℕ) → 18 ≤ length t → field_of k t ≡ Bad
+pub long_field : (k : Key) (t : List ℕ) → 18 ≤ length t → field_of k t ≡ None
 unfolding field_of
 long_field Lines t h = long_number 31 (bytes "lines=") t (omega arith)
 long_field Espi t h = long_number 32 (bytes "espi=") t (omega arith)

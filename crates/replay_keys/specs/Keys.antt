@@ -1,7 +1,5 @@
 -- The lines of a bench replay: which key stands on which line, and what a line says. Document 01's "Bench replay".
-use Rattle.std.specs.Prelude.{cond, List, ℕ, length, drop}
-use Rattle.text.specs.declared.Number.{Number}
-use Rattle.text.specs.declared.Number.TheVariants.{Is, Bad}
+use Rattle.std.specs.Prelude.{cond, List, ℕ, length, drop, Option, Some, None}
 use Rattle.text.specs.Text.{bytes, begins_with, same_text}
 use Rattle.text.specs.Number.{limited, number_in}
 use Rattle.replay_keys.specs.declared.Key.{Key}
@@ -33,20 +31,20 @@ after Width = Offset
 after Offset = Value
 after Value = Op
 
-abbrev pub at_most : ℕ → Number → Number
-at_most most (Is n) = limited most n
-at_most most Bad = Bad
+abbrev pub at_most : ℕ → Option ℕ → Option ℕ
+at_most most (Some n) = limited most n
+at_most most None = None
 
 -- a key and a number up to its limit
-unfoldable pub number_at : ℕ → List ℕ → List ℕ → Number
-number_at most key t = cond (begins_with key t) (at_most most (number_in (drop (length key) t))) Bad
+unfoldable pub number_at : ℕ → List ℕ → List ℕ → Option ℕ
+number_at most key t = cond (begins_with key t) (at_most most (number_in (drop (length key) t))) None
 
 -- one of two lines: 0 for the first, 1 for the second
-unfoldable pub one_of : List ℕ → List ℕ → List ℕ → Number
-one_of a b t = cond (same_text a t) (Is 0) (cond (same_text b t) (Is 1) Bad)
+unfoldable pub one_of : List ℕ → List ℕ → List ℕ → Option ℕ
+one_of a b t = cond (same_text a t) (Some 0) (cond (same_text b t) (Some 1) None)
 
 -- What a line, without its end, says for the key whose turn it is. A shape number off its limit is a bad line.
-unfoldable pub field_of : Key → List ℕ → Number
+unfoldable pub field_of : Key → List ℕ → Option ℕ
 field_of Lines t = number_at 31 (bytes "lines=") t
 field_of Espi t = number_at 32 (bytes "espi=") t
 field_of Eppi t = number_at 2 (bytes "eppi=") t

@@ -12,7 +12,7 @@ use Rattle.meaning.specs.Answers.{Answer}
 use Rattle.meaning.specs.Layout.{Tables}
 use Rattle.meaning.specs.Rule.{access}
 use Rattle.meaning.specs.Step.{Outcome, stepped}
-use Rattle.text.specs.declared.Number.{Number}
+use Rattle.std.specs.Prelude.{Option}
 use Rattle.text.specs.Sheet.{Put}
 use Rattle.replay_keys.specs.Keys.{rank, field_of}
 use Rattle.replay_meaning.specs.declared.Progress.{Progress}
@@ -82,6 +82,6 @@ module _ (p : Progress) (s : Tables) (b : List ℕ) (e : ℕ) (l : List ℕ) (q 
       → Reached (line_read (run_of p s b e) l) q s' b e b'
   line_is_full h k r = rw (line_full (run_of p s b e) l h k) r
 
-  pub line_is : (n : Number) → p.over ≡ false → p.steps < 1000000 → n ≡ field_of p.key l
+  pub line_is : (n : Option ℕ) → p.over ≡ false → p.steps < 1000000 → n ≡ field_of p.key l
       → Reached (line_judged (run_of p s b e) n) q s' b e b' → Reached (line_read (run_of p s b e) l) q s' b e b'
   line_is n h k f r = rw (line_judged_lem (run_of p s b e) l h k, ← f) r

@@ -2,51 +2,33 @@
 ghost use Rattle.std.specs.Prelude.{◌≡◌, ◌+◌, ◌≤◌, ◌<◌, length};
 ghost use Rattle.meaning.specs.Rule.{access as by_access};
 ghost use Rattle.meaning.specs.Step.{stepped};
-ghost use Rattle.replay_meaning.specs.Run.{shape_of, request_of, stopped, counted, completed, keeping, good_line, line_read};
+ghost use Rattle.replay_meaning.specs.Run.{shape_of, request_of, completed, good_line, line_read};
 ghost use Rattle.replay_meaning.specs.Replay.{all_present};
 ghost use Rattle.replay_lines.specs.Reached.{run_of, Reached, BadWritten};
 
 use controller::access;
-use replay_keys::{field, next, rank};
 use replay_meaning::Progress;
 use replay_state::State;
 use replay_steps::answer::{put_bad, put_step};
 use replay_steps::request::{request_of, shape_of};
-use text::Number;
 use types::Answer;
 
 // The one call of the controller: a step, from the values of its lines. All interrupts are present.
+#[tactic(auto, unfolding(replay_meaning::specs::Replay::all_present))]
 fn act(dist: &mut [u8], redist: &mut [u8], values: [u32; 10]) -> Answer
     ensures { record { answered = result; tables = all_present dist.new redist.new }
         ≡ stepped (shape_of values) (by_access (request_of values)) (all_present dist.old redist.old) }
 {
-    let dist_presence = [4294967295u32; 63];
-    let redist_presence = [4294967295u32; 3];
-    let shape = shape_of(values);
-    let request = request_of(values);
+    let dist_presence = [u32::MAX; 63];
+    let redist_presence = [u32::MAX; 3];
     access(
         dist,
         redist,
         &dist_presence,
         &redist_presence,
-        shape,
-        request,
+        shape_of(values),
+        request_of(values),
     )
-}
-
-// One step more is answered.
-fn count(p: Progress) -> Progress
-    requires { p.steps < 1000000 }
-    ensures { result ≡ counted p }
-{
-    let key = p.key;
-    let values = p.values;
-    Progress {
-        key,
-        values,
-        steps: p.steps + 1,
-        over: p.over,
-    }
 }
 
 // A whole step: the controller's answer is written.
@@ -56,30 +38,13 @@ fn complete(dist: &mut [u8], redist: &mut [u8], out: &mut [u8], end: usize, p: P
     ensures { Reached (completed (run_of p (all_present dist.old redist.old) out.old end))
         result (all_present dist.new redist.new) out.old end out.new }
 {
-    let values = p.values;
-    let answer = act(dist, redist, values);
-    let at = count(p);
+    let answer = act(dist, redist, p.values);
+    let at = p.counted();
     let last = put_step(out, end, at.steps, answer);
     State {
         at,
         len: 0,
         end: last,
-    }
-}
-
-// The line's value is kept under its key, and the next key's turn comes.
-fn keep(p: Progress, v: u32) -> Progress
-    ensures { result ≡ keeping p v }
-{
-    let key = p.key;
-    let mut values = p.values;
-    let i = rank(key);
-    values[i] = v;
-    Progress {
-        key: next(key),
-        values,
-        steps: p.steps,
-        over: p.over,
     }
 }
 
@@ -97,26 +62,11 @@ fn good(
     ensures { Reached (good_line (run_of p (all_present dist.old redist.old) out.old end) v)
         result (all_present dist.new redist.new) out.old end out.new }
 {
-    let key = p.key;
-    let at = keep(p, v);
-    if rank(key) == 9 {
+    let at = p.keeping(v);
+    if p.key.rank() == 9 {
         return complete(dist, redist, out, end, at);
     }
     State { at, len: 0, end }
-}
-
-// The replay is over: no line after this one is read.
-fn stop(p: Progress) -> Progress
-    ensures { result ≡ stopped p }
-{
-    let key = p.key;
-    let values = p.values;
-    Progress {
-        key,
-        values,
-        steps: p.steps,
-        over: true,
-    }
 }
 
 // A bad line: its number is written, and the replay is over.
@@ -126,7 +76,7 @@ fn bad(out: &mut [u8], end: usize, p: Progress) -> State
 {
     let last = put_bad(out, end, p);
     State {
-        at: stop(p),
+        at: p.stopped(),
         len: 0,
         end: last,
     }
@@ -151,9 +101,8 @@ pub fn line_read(
     if 1000000 <= p.steps {
         return bad(out, end, p);
     }
-    let key = p.key;
-    match field(line, key) {
-        Number::Is(v) => good(dist, redist, out, end, p, v),
-        Number::Bad => bad(out, end, p),
+    match p.key.field(line) {
+        Some(v) => good(dist, redist, out, end, p, v),
+        None => bad(out, end, p),
     }
 }

@@ -9,8 +9,7 @@ use lib.ListN.{length}
 use Rattle.lists.proofs.Bools.{clash}
 use Rattle.meaning.specs.Layout.{Tables}
 use Rattle.meaning.proofs.Choices.{chosen}
-use Rattle.text.specs.declared.Number.{Number}
-use Rattle.text.specs.declared.Number.TheVariants.{Is, Bad}
+use Rattle.std.specs.Prelude.{Option, Some, None}
 use Rattle.replay_keys.specs.declared.Key.{Key}
 use Rattle.replay_keys.specs.declared.Key.TheVariants.{Lines, Espi, Eppi, Mbis, Op, Frame, Sec, Width, Offset, Value}
 use Rattle.replay_keys.specs.Keys.{field_of}
@@ -35,10 +34,10 @@ good_counts Width vs n o t s v = omega arith
 good_counts Offset vs n o t s v = omega arith
 good_counts Value vs n o t s v = omega arith
 
-judged_counts : (r : Run) (n : Number) → (line_judged r n).at.over ≡ false → line_number (line_judged r n).at ≡ suc (line_number r.at)
+judged_counts : (r : Run) (n : Option ℕ) → (line_judged r n).at.over ≡ false → line_number (line_judged r n).at ≡ suc (line_number r.at)
 unfolding bad_line stopped
-judged_counts r (Is v) h = good_counts r.at.key r.at.values r.at.steps r.at.over r.tables r.said v
-judged_counts r Bad h = absurd (true≢false h)
+judged_counts r (Some v) h = good_counts r.at.key r.at.values r.at.steps r.at.over r.tables r.said v
+judged_counts r None h = absurd (true≢false h)
 
 -- once over, a replay stays so
 line_stays : (r : Run) (t : List ℕ) → (line_read r t).at.over ≡ false → r.at.over ≡ false
@@ -56,7 +55,7 @@ line_counts : (r : Run) (t : List ℕ) → (line_read r t).at.over ≡ false →
 unfolding line_read
 line_counts r t h =
     chosen (λ (q : Run). q.at.over ≡ false → line_number q.at ≡ suc (line_number r.at)) r.at.over r _
-    (λ e k. absurd (clash e k)) (λ e. judged_counts r (cond (leb 1000000 r.at.steps) Bad (field_of r.at.key t))) h
+    (λ e k. absurd (clash e k)) (λ e. judged_counts r (cond (leb 1000000 r.at.steps) None (field_of r.at.key t))) h
 
 lines_count : (r : Run) (ts : List (List ℕ)) → (lines_read r ts).at.over ≡ false
     → line_number (lines_read r ts).at ≡ length ts + line_number r.at

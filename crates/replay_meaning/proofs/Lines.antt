@@ -8,8 +8,7 @@ use lib.Dec.{eqb, leb}
 use lib.ListN.{length, take, length-take, length-append}
 use lib.Seq.{take_all, take-nil, take-append-le}
 use borrow.Author.Tests.{lt-ltb, le-ltb, leb-true, leb-false, eq-eqb, ne_eqb}
-use Rattle.text.specs.declared.Number.{Number}
-use Rattle.text.specs.declared.Number.TheVariants.{Bad}
+use Rattle.std.specs.Prelude.{Option, None}
 use Rattle.text.specs.Number.{numbered}
 use Rattle.text.specs.Text.{bytes}
 use Rattle.replay_keys.specs.declared.Key.{Key}
@@ -35,7 +34,7 @@ module _ (most : ℕ) (enough : 18 ≤ most) where
   line_short : (r : Run) (t : List ℕ) → line_read r (take most t) ≡ line_read r t
   unfolding line_read
   line_short r t =
-      ap (λ (n : Number). cond r.at.over r (line_judged r (cond (leb 1000000 r.at.steps) Bad n))) (field_short r.at.key t)
+      ap (λ (n : Option ℕ). cond r.at.over r (line_judged r (cond (leb 1000000 r.at.steps) None n))) (field_short r.at.key t)
 
   pushed_short : (t : List ℕ) (b : ℕ) → pushed most (take most t) b ≡ take most (t ++ (b ∷ []))
   unfolding pushed

@@ -8,8 +8,7 @@ use lib.Dec.{eqb, leb}
 use Rattle.meaning.specs.Step.{Outcome, stepped}
 use Rattle.meaning.specs.Rule.{access}
 use Rattle.meaning.proofs.Choices.{cond_alike}
-use Rattle.text.specs.declared.Number.{Number}
-use Rattle.text.specs.declared.Number.TheVariants.{Is, Bad}
+use Rattle.std.specs.Prelude.{Option, Some, None}
 use Rattle.replay_keys.specs.Keys.{field_of}
 use Rattle.replay_meaning.specs.Run.{Run, shape_of, request_of, bad_text, bad_line, step_text, answered, completed, kept, is_last}
 use Rattle.replay_meaning.specs.Run.{good_line, line_judged, line_read}
@@ -40,15 +39,15 @@ unfolding good_line kept
 good_behind t r v =
     cond_alike (λ (q : Run). q) (behind t) (is_last r.at.key) _ _ _ _ (λ e. completed_behind t (kept r v)) (λ e. refl)
 
-judged_behind : (t : List ℕ) (r : Run) (n : Number) → line_judged (behind t r) n ≡ behind t (line_judged r n)
-judged_behind t r (Is v) = good_behind t r v
-judged_behind t r Bad = bad_behind t r
+judged_behind : (t : List ℕ) (r : Run) (n : Option ℕ) → line_judged (behind t r) n ≡ behind t (line_judged r n)
+judged_behind t r (Some v) = good_behind t r v
+judged_behind t r None = bad_behind t r
 
 line_behind : (t : List ℕ) (r : Run) (l : List ℕ) → line_read (behind t r) l ≡ behind t (line_read r l)
 unfolding line_read
 line_behind t r l =
     cond_alike (λ (q : Run). q) (behind t) r.at.over _ _ _ _ (λ e. refl)
-    (λ e. judged_behind t r (cond (leb 1000000 r.at.steps) Bad (field_of r.at.key l)))
+    (λ e. judged_behind t r (cond (leb 1000000 r.at.steps) None (field_of r.at.key l)))
 
 -- the same of a replay in the middle of a line
 abbrev later : List ℕ → Live → Live

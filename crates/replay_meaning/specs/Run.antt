@@ -1,5 +1,5 @@
 -- What one line does to a replay: document 01's "Bench replay".
-use Rattle.std.specs.Prelude.{Bool, true, cond, List, ◌++◌, ℕ, ◌+◌, ◌*◌, eqb, leb, get_or, set}
+use Rattle.std.specs.Prelude.{Bool, true, cond, List, ◌++◌, ℕ, ◌+◌, ◌*◌, eqb, leb, get_or, set, Option, Some, None}
 use Rattle.types.specs.declared.Frame.{Frame}
 use Rattle.types.specs.declared.Frame.TheVariants.{Dist, Redist}
 use Rattle.types.specs.declared.Side.{Side}
@@ -12,8 +12,6 @@ use Rattle.meaning.specs.Answers.{Answer, status_of, value_of}
 use Rattle.meaning.specs.Layout.{Tables}
 use Rattle.meaning.specs.Rule.{access}
 use Rattle.meaning.specs.Step.{Outcome, stepped}
-use Rattle.text.specs.declared.Number.{Number}
-use Rattle.text.specs.declared.Number.TheVariants.{Is, Bad}
 use Rattle.text.specs.Text.{bytes}
 use Rattle.text.specs.Number.{numbered}
 use Rattle.replay_keys.specs.declared.Key.{Key}
@@ -95,11 +93,11 @@ unfoldable pub good_line : Run → ℕ → Run
 good_line r v = cond (is_last r.at.key) (completed (kept r v)) (kept r v)
 
 -- a line by what it says: a value is kept, and anything else is a bad line
-abbrev pub line_judged : Run → Number → Run
-line_judged r (Is v) = good_line r v
-line_judged r Bad = bad_line r
+abbrev pub line_judged : Run → Option ℕ → Run
+line_judged r (Some v) = good_line r v
+line_judged r None = bad_line r
 
 -- What one line does. Step 1,000,001 has no good line. After a bad line nothing is read.
 unfoldable pub line_read : Run → List ℕ → Run
 line_read r t =
-    cond r.at.over r (line_judged r (cond (leb 1000000 r.at.steps) Bad (field_of r.at.key t)))
+    cond r.at.over r (line_judged r (cond (leb 1000000 r.at.steps) None (field_of r.at.key t)))

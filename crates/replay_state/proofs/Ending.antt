@@ -1,7 +1,7 @@
 -- The end of a replay, from what `put_ending` writes at a buffer's start.
 --   ended_said, ended_full    the last text was put, or the buffer is too small for it
---   said_text    where the answer is Said n, the buffer's first n bytes are the last text; said_fits: they lie within it
-use mathlib.Core.Path.{◌≡◌, sym, ap, subst, ◌∙◌}
+--   said_text    where the answer is Some n, the buffer's first n bytes are the last text; said_fits: they lie within it
+use mathlib.Core.Path.{◌≡◌, sym, ap, ◌∙◌}
 use mathlib.Core.Bool.{Bool, true, false, cond}
 use mathlib.Core.List.{List, [], ◌++◌}
 use Prim.Native.Nat.{ℕ, ◌<◌, ◌≤◌}
@@ -12,10 +12,7 @@ use lib.ListN.{length, take, drop, take-append-drop, length-append}
 use lib.Seq.{take-append-le, take_all}
 use borrow.Author.Tests.{le-leb, lt-leb}
 use Rattle.text.specs.Sheet.{Put}
-use Rattle.replay_meaning.specs.declared.Progress.{Progress}
-use Rattle.replay_meaning.specs.Replay.{ending}
-use Rattle.replay_state.specs.declared.Ended.{Ended}
-use Rattle.replay_state.specs.declared.Ended.TheVariants.{Said, Full}
+use Rattle.std.specs.Prelude.{Option, Some, None}
 use Rattle.replay_state.specs.Ended.{over, ended_of, ended_text, EndWritten}
 
 module _ {b : List ℕ} {t : List ℕ} {b' : List ℕ} {e : ℕ} where
@@ -25,30 +22,25 @@ module _ {b : List ℕ} {t : List ℕ} {b' : List ℕ} {e : ℕ} where
       ∙ (ap (λ (x : List ℕ). x ++ drop e b') p.is
       ∙ (ap (λ (x : List ℕ). t ++ x) p.kept ∙ ap (λ (n : ℕ). t ++ drop n b) (p.end ∙ zero-add (length t))))
 
-  put_said : 32 ≤ length b → Put b 0 t b' e → EndWritten t b (Said e) b'
+  pub ended_said : 32 ≤ length b → Put b 0 t b' e → EndWritten t b (Some e) b'
   unfolding ended_of ended_text
-  put_said h p =
+  ended_said h p =
       record {
-        answer = rw (le-leb 32 (length b) h) (ap Said (p.end ∙ zero-add (length t)));
+        answer = rw (le-leb 32 (length b) h) (ap Some (p.end ∙ zero-add (length t)));
         output = rw (le-leb 32 (length b) h) (put_over p);
       }
 
-pub ended_said : (p : Progress) {rest line b b' : List ℕ} {e : ℕ} → rest ≡ line → 32 ≤ length b → Put b 0 (ending p rest) b' e
-    → EndWritten (ending p line) b (Said e) b'
-ended_said p {rest} {line} {b} {b'} {e} same h put =
-    subst (λ (x : List ℕ). EndWritten (ending p x) b (Said e) b') same (put_said h put)
-
-pub ended_full : (b t : List ℕ) → length b < 32 → EndWritten t b Full b
+pub ended_full : (b t : List ℕ) → length b < 32 → EndWritten t b None b
 unfolding ended_of ended_text
 ended_full b t h = record { answer = rw (lt-leb 32 (length b) h); output = rw (lt-leb 32 (length b) h) }
 
--- what an answer Said n tells of the buffer
-module _ {n : ℕ} {r : Ended} {t b b' : List ℕ} (is : r ≡ Said n) (w : EndWritten t b r b') where
+-- what an answer Some n tells of the buffer
+module _ {n : ℕ} {r : Option ℕ} {t b b' : List ℕ} (is : r ≡ Some n) (w : EndWritten t b r b') where
   said_long : (n ≡ length t) × (b' ≡ over t b)
   unfolding ended_of ended_text
   said_long = by (leb 32 (length b)) (sym is ∙ w.answer) w.output
     where
-      by : (x : Bool) → Said n ≡ cond x (Said (length t)) Full → b' ≡ over (cond x t []) b → (n ≡ length t) × (b' ≡ over t b)
+      by : (x : Bool) → Some n ≡ cond x (Some (length t)) None → b' ≡ over (cond x t []) b → (n ≡ length t) × (b' ≡ over t b)
       by true p q = (cc, q)
       by false p q = absurd (let z : ◌≡◌ {A = ℕ} 0 1 = cc in omega arith)
 

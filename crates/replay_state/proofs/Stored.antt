@@ -8,19 +8,10 @@ use native.Mathlib.Omega.{arith}
 use lib.Dec.{leb}
 use lib.ListN.{length, take, set, get_or, length-take}
 use lib.Seq.{take-suc, take-suc-set}
-use borrow.Author.Tests.{lt-ltb, le-ltb, le-leb, lt-leb, ne_eqb, leb-true, leb-false}
-use Rattle.meaning.proofs.Choices.{cond_true, cond_false}
+use borrow.Author.Tests.{lt-ltb, le-ltb, ne_eqb, leb-true, leb-false}
+use Rattle.meaning.proofs.Choices.{cond_false}
 use Rattle.replay_meaning.specs.Stream.{pushed}
 use Rattle.replay_state.specs.Held.{Held, held_in, stored, byte_held, bytes_held}
-
--- a buffer without room is unchanged
-pub stored_none : (line : List ℕ) (len b : ℕ) → length line ≤ len → held_in line len ≡ stored (held_in line len) b
-unfolding stored
-stored_none line len b h = sym (cond_true _ _ _ (le-leb (length line) len h))
-
-pub stored_one : (line : List ℕ) (len b : ℕ) → len < length line → held_in (set line len b) (len + 1) ≡ stored (held_in line len) b
-unfolding stored
-stored_one line len b h = sym (cond_false _ _ _ (lt-leb (length line) len h))
 
 -- the line that it holds is the replay's unfinished line
 pub line_held : (h : Held) (b : ℕ) → take (stored h b).len (stored h b).line ≡ pushed (length h.line) (take h.len h.line) b

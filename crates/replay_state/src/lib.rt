@@ -20,21 +20,14 @@ pub struct State {
     pub end: usize,
 }
 
-// How a replay ends: the first bytes of the output are all that is to be written, or the output had no room for it.
-#[derive(Clone, Copy)]
-pub enum Ended {
-    Said(usize),
-    Full,
-}
-
 // Nothing read yet.
+#[tactic(auto, unfolding(crate::specs::Held::start_state, replay_meaning::specs::Replay::start_progress))]
 pub fn start() -> State
     ensures { result ≡ start_state }
 {
-    let values = [0u32; 10];
     let at = Progress {
         key: Key::Lines,
-        values,
+        values: [0; 10],
         steps: 0,
         over: false,
     };
@@ -42,6 +35,7 @@ pub fn start() -> State
 }
 
 // One byte more of the line, where it is kept. Answers how many are kept.
+#[tactic(auto, unfolding(crate::specs::Held::stored))]
 pub fn push(line: &mut [u8], len: usize, b: u8) -> usize
     ensures { held_in line.new result ≡ stored (held_in line.old len) b }
 {
@@ -56,20 +50,16 @@ pub fn push(line: &mut [u8], len: usize, b: u8) -> usize
 pub fn prefix(line: &[u8], len: usize) -> &[u8]
     ensures { result.now ≡ take len line.now }
 {
-    if line.len() <= len {
-        return line;
-    }
-    &line[..len]
+    &line[..len.min(line.len())]
 }
 
-// The input has ended: what is still to be written, at the start of `out`.
-pub fn finish(out: &mut [u8], line: &[u8], s: State) -> Ended
+// The input has ended: what is still to be written, at the start of `out`. Answers how many bytes of it are to be written, or None
+// where it has no room.
+pub fn finish(out: &mut [u8], line: &[u8], s: State) -> Option<usize>
     ensures { EndWritten (ending s.at (take s.len line.now)) out.old result out.new }
 {
     if out.len() < 32 {
-        return Ended::Full;
+        return None;
     }
-    let p = s.at;
-    let len = s.len;
-    Ended::Said(put_ending(out, 0, p, prefix(line, len)))
+    Some(put_ending(out, 0, s.at, prefix(line, s.len)))
 }

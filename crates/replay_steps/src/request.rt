@@ -7,31 +7,38 @@ use types::{Access, Frame, Shape, Side, Way};
 fn frame_of(n: u32) -> Frame
     ensures { result ≡ frame_of n }
 {
-    if n == 0 { Frame::Dist } else { Frame::Redist }
+    match n {
+        0 => Frame::Dist,
+        _ => Frame::Redist,
+    }
 }
 
 fn side_of(n: u32) -> Side
     ensures { result ≡ side_of n }
 {
-    if n == 0 {
-        Side::Secure
-    } else {
-        Side::NonSecure
+    match n {
+        0 => Side::Secure,
+        _ => Side::NonSecure,
     }
 }
 
 fn way_of(n: u32) -> Way
     ensures { result ≡ way_of n }
 {
-    if n == 0 { Way::Read } else { Way::Write }
+    match n {
+        0 => Way::Read,
+        _ => Way::Write,
+    }
 }
 
+#[tactic(auto, unfolding(replay_meaning::specs::Run::shape_of))]
 pub fn shape_of(values: [u32; 10]) -> Shape
     ensures { result ≡ shape_of values }
 {
     Shape::new(values[0], values[1], values[2], values[3] == 1)
 }
 
+#[tactic(auto, unfolding(replay_meaning::specs::Run::request_of))]
 pub fn request_of(values: [u32; 10]) -> Access
     ensures { result ≡ request_of values }
 {

@@ -17,8 +17,7 @@ use Rattle.replay_meaning.proofs.Prefixes.{closed_handed_on}
 use Rattle.replay_meaning.proofs.Pieces.{fed_append, within_fed}
 use Rattle.replay_meaning.proofs.Lines.{streamed}
 use Rattle.replay_state.specs.declared.State.{State}
-use Rattle.replay_state.specs.declared.Ended.{Ended}
-use Rattle.replay_state.specs.declared.Ended.TheVariants.{Said}
+use Rattle.std.specs.Prelude.{Option, Some}
 use Rattle.replay_state.specs.Ended.{EndWritten}
 use Rattle.replay_state.specs.Held.{start_state}
 use Rattle.replay_state.proofs.Ending.{said_text}
@@ -87,10 +86,10 @@ room_taken size l (b ∷ bs) room =
 -- THE LAW: in a buffer with room for the output and 128 bytes more, one call of `feed` takes a whole input. What it wrote and then
 -- what `finish` wrote is the output.
 pub room_said : {s s' : State} {d r : List ℕ} {t' : Tables} (line : List ℕ) {line' : List ℕ} (input : List ℕ) {used : ℕ} (b : List ℕ)
-    {b' : List ℕ} {e : Ended} {n : ℕ} {c c' : List ℕ} → s ≡ start_state → d ≡ replicate 2012 0 → r ≡ replicate 96 0
+    {b' : List ℕ} {e : Option ℕ} {n : ℕ} {c c' : List ℕ} → s ≡ start_state → d ≡ replicate 2012 0 → r ≡ replicate 96 0
     → 18 ≤ length line → length (replayed input) + 128 ≤ length b
     → Taken (within (length b) (resumed s (all_present d r) line) input) s' t' line' input used b b'
-    → EndWritten (ending s'.at (take s'.len line')) c e c' → e ≡ Said n
+    → EndWritten (ending s'.at (take s'.len line')) c e c' → e ≡ Some n
     → (used ≡ length input) × (take s'.end b' ++ take n c' ≡ replayed input)
 room_said {s} {s'} {d} {r} {t'} line {line'} input {used} b {b'} {e} {n} {c} {c'} hs hd hr long room got w is = (all, output)
   where

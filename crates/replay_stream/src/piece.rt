@@ -24,14 +24,13 @@ fn byte(
         (byte_held (held_in line.old s.len) b)
         result (all_present dist.new redist.new) line.new out.old s.end out.new }
 {
-    let at = s.at;
-    let len = s.len;
-    let end = s.end;
-    if b == 10 {
-        return line_read(dist, redist, out, end, at, prefix(line, len));
+    if b == b'\n' {
+        return line_read(dist, redist, out, s.end, s.at, prefix(line, s.len));
     }
-    let more = push(line, len, b);
-    State { at, len: more, end }
+    State {
+        len: push(line, s.len, b),
+        ..s
+    }
 }
 
 // Takes a piece, byte by byte, while at least 128 bytes of `out` are free. What it writes stands at the start of `out`: what was
@@ -51,19 +50,15 @@ pub fn feed(
         result.state (all_present dist.new redist.new) line.new
         piece.now result.used out.old out.new }
 {
-    let at = s.at;
-    let mut state = State {
-        at,
-        len: s.len,
-        end: 0,
-    };
-    let mut used: usize = 0;
-    while used < piece.len() {
+    let mut state = State { end: 0, ..s };
+    for (used, &b) in piece.iter().enumerate() {
         if out.len() - state.end < 128 {
             return Fed { state, used };
         }
-        state = byte(dist, redist, line, out, state, piece[used]);
-        used += 1;
+        state = byte(dist, redist, line, out, state, b);
     }
-    Fed { state, used }
+    Fed {
+        state,
+        used: piece.len(),
+    }
 }

@@ -1,4 +1,4 @@
--- Two tables that both keep the promise of `dist_records`, or of `redist_records`, are one.
+-- Two tables that both keep the promise of `records`, at the Distributor's length or at the Redistributors', are one.
 use mathlib.Core.Path.{◌≡◌, sym, ◌∙◌}
 use mathlib.Core.List.{List}
 use Prim.Native.Nat.{ℕ}

@@ -3,14 +3,9 @@
 
 ghost use Rattle.std.specs.Prelude.{◌≡◌, replicate};
 
-pub fn dist_records() -> [u8; 2012]
-    ensures { result ≡ replicate 2012 0 }
+// A table's records, as many as the caller's array has.
+pub fn records<const N: usize>() -> [u8; N]
+    ensures { result ≡ replicate N 0 }
 {
-    [0; 2012]
-}
-
-pub fn redist_records() -> [u8; 96]
-    ensures { result ≡ replicate 96 0 }
-{
-    [0; 96]
+    [0; N]
 }

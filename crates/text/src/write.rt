@@ -1,5 +1,5 @@
 // Text put at the end of what a lent buffer holds. Each answers the new end; what stands after it is not touched.
-ghost use Rattle.std.specs.Prelude.{[], ◌∷◌, ◌+◌, ◌<◌, ◌≤◌, ◌%◌, ◌≡◌, length};
+ghost use Rattle.std.specs.Prelude.{[], ◌∷◌, ◌+◌, ◌<◌, ◌≤◌, length};
 ghost use Rattle.text.specs.Number.{digits_of, numbered};
 ghost use Rattle.text.specs.Sheet.{Put};
 
@@ -15,20 +15,12 @@ pub fn put(out: &mut [u8], end: usize, text: &[u8]) -> usize
     requires { end + length text.now ≤ length out.old }
     ensures { Put out.old end text.now out.new result }
 {
-    let mut i = 0;
-    while i < text.len() {
-        out[end + i] = text[i];
-        i += 1;
-    }
-    end + i
+    let last = end + text.len();
+    out[end..last].copy_from_slice(text);
+    last
 }
 
-fn glyph(n: u64) -> u8
-    ensures { result ≡ 48 + n % 10 }
-{
-    48 + (n % 10) as u8
-}
-
+// The last k digits of n at most, in decimal. By hand: `write!` may fail for all that its contract says, and these are always put.
 fn put_digits(out: &mut [u8], end: usize, k: usize, n: u64) -> usize
     requires { end + k ≤ length out.old }
     ensures { Put out.old end (digits_of k n) out.new result }
@@ -36,11 +28,12 @@ fn put_digits(out: &mut [u8], end: usize, k: usize, n: u64) -> usize
     if k == 0 {
         return end;
     }
+    let glyph = b'0' + (n % 10) as u8;
     if n < 10 {
-        return put_byte(out, end, glyph(n));
+        return put_byte(out, end, glyph);
     }
     let last = put_digits(out, end, k - 1, n / 10);
-    put_byte(out, last, glyph(n))
+    put_byte(out, last, glyph)
 }
 
 // A whole line: the key, the number and the line's end.

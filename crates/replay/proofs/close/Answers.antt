@@ -6,7 +6,7 @@ use Rattle.replay_state.proofs.Ending.{said_fits}
 use Rattle.replay.proofs.close.Goals as goal
 
 pub slice_bounds-out-end : goal.slice_bounds-out-end
-slice_bounds-out-end g c = said_fits c.in-Said.is c.finish-ended.ensures
+slice_bounds-out-end g c = said_fits c.in-Some.is c.finish.ensures
 
 pub slice_bounds-write_all-end : goal.slice_bounds-write_all-end
-slice_bounds-write_all-end g c = let fits = said_fits c.in-Said.is c.finish-ended.ensures in simp length-take (omega arith)
+slice_bounds-write_all-end g c = let fits = said_fits c.in-Some.is c.finish.ensures in simp length-take (omega arith)

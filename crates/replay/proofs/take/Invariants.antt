@@ -1,10 +1,9 @@
--- The first `from` bytes of the piece are taken, and the output's buffer has room for a byte's output. The measure is how many bytes
--- are not taken yet.
-use Rattle.std.proofs.Common.{◌-◌, ◌≤◌, length}
+-- The output's buffer has room for a byte's output. The measure is how many bytes of the piece are not taken yet.
+use Rattle.std.proofs.Common.{◌≤◌, length}
 use Rattle.replay.proofs.take.Given as goal
 
-abbrev pub invariant-loop-from : goal.invariant-loop-from
-invariant-loop-from g l = (l.from ≤ length l.piece) × (128 ≤ length l.out)
+abbrev pub invariant-loop-rest : goal.invariant-loop-rest
+invariant-loop-rest g l = 128 ≤ length l.out
 
-abbrev pub decreases-loop-from : goal.decreases-loop-from
-decreases-loop-from g l = length l.piece - l.from
+abbrev pub decreases-loop-rest : goal.decreases-loop-rest
+decreases-loop-rest g l = length l.rest

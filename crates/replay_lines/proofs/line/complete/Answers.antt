@@ -5,4 +5,4 @@ use Rattle.replay_lines.proofs.line.complete.Goals as goal
 
 pub returns : goal.returns
 returns c =
-    reached_step _ _ _ _ (omega arith) _ _ _ refl c.count-at.ensures c.act-answer.ensures c.put_step-last.ensures
+    reached_step _ _ _ _ (omega arith) _ _ _ refl c.counted-at.ensures c.act-answer.ensures c.put_step-last.ensures

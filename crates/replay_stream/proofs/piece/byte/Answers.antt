@@ -9,4 +9,4 @@ returns-then-b-eq10 c =
 
 pub returns : goal.returns
 returns c =
-    after_other c.args.s _ c.args.line.now _ _ _ _ c.if-b-eq10.false (omega arith) c.push-more.auto.line c.push-more.ensures
+    after_other c.args.s _ c.args.line.now _ _ _ _ c.if-b-eq10.false (omega arith) c.push.auto.line c.push.ensures

@@ -1,6 +1,6 @@
 -- `feed` takes a piece as `within` says. Two ways out: no room for a byte more (returns-then-out-state-lt128), and the piece's end
 -- (returns).
-use Rattle.std.proofs.Common.{refl, ◌+◌, ◌≤◌, length, arith}
+use Rattle.std.proofs.Common.{◌≡◌, refl, ◌+◌, ◌≤◌, length, arith}
 use Rattle.replay_state.specs.Held.{held_in}
 use Rattle.replay_state.proofs.Stored.{held_none, held_next}
 use Rattle.replay_stream.proofs.ReachedLive.{feeding_more, feeding_done, feeding_full}
@@ -34,4 +34,5 @@ loop-used-preserved c =
 pub returns : goal.returns
 returns c =
     let i = c.loop-used.invariant in
-    record { taken = feeding_done i.feeding c.loop-used-test.false; held = i.held }
+    let all : length c.args.piece.now ≡ c.loop-used.used = omega arith in
+    rw all (record { taken = feeding_done i.feeding c.loop-used-test.false; held = i.held })

@@ -1,5 +1,5 @@
--- The first `used` bytes are taken; ₀ is what was lent, and the state at the loop's start. The measure is how many remain.
-use Rattle.std.proofs.Common.{◌≡◌, List, ℕ, ◌-◌, length, take}
+-- The first `used` bytes are taken; ₀ is what was lent, and the state at the loop's start.
+use Rattle.std.proofs.Common.{◌≡◌, List, ℕ, length, take}
 use Rattle.replay_meaning.specs.Replay.{all_present}
 use Rattle.replay_meaning.specs.Stream.{within}
 use Rattle.replay_state.specs.declared.State.{State}
@@ -18,6 +18,3 @@ pub record Going (dist₀ redist₀ line₀ out₀ piece : List ℕ) (state₀ :
 abbrev pub invariant-loop-used : goal.invariant-loop-used
 invariant-loop-used l =
     Going l.initial.dist l.initial.redist l.initial.line l.initial.out l.piece l.initial.state l.dist l.redist l.line l.out l.state l.used
-
-abbrev pub decreases-loop-used : goal.decreases-loop-used
-decreases-loop-used l = length l.piece - l.used

@@ -1,7 +1,7 @@
 -- `write::put_digits` puts `digits_of k n`. It calls itself with k - 1, and the measure is k. Three ways out: no digit wanted
 -- (returns-then-k-eq0), a number of one digit (returns-then-n-lt10), and the digits before the last, put by the call of itself, and then
 -- the last (returns).
-use Rattle.std.proofs.Common.{arith, ◌-◌, ◌/◌}
+use Rattle.std.proofs.Common.{arith}
 use Rattle.text.proofs.Numbers.{length_digits, digits_one, digits_more}
 use Rattle.text.proofs.Puts.{put_none, put_both}
 use Rattle.text.specs.Number.{digits_of}
@@ -9,23 +9,15 @@ use Rattle.text.proofs.write.+put_digits.Goals as goal
 
 pub returns-then-k-eq0 : goal.returns-then-k-eq0
 unfolding digits_of
-returns-then-k-eq0 t c = rw c.if-k-eq0.true (put_none c.args.out.now c.args.end)
+returns-then-k-eq0 t c = rw c.if-k-eq0.true (put_none _ _)
 
 pub returns-then-n-lt10 : goal.returns-then-n-lt10
-returns-then-n-lt10 t c =
-    rw (digits_one c.args.k c.args.n c.if-k-eq0.false c.if-n-lt10.true, ← c.glyph.ensures) c.put_byte.ensures
+returns-then-n-lt10 t c = rw (digits_one c.args.k c.args.n c.if-k-eq0.false c.if-n-lt10.true) c.put_byte.ensures
 
 pub put_byte-requires-2 : goal.put_byte-requires-2
-put_byte-requires-2 t c =
-    omega (
-      arith,
-      c.put_digits-last.ensures.end,
-      length_digits (c.args.k - 1) (c.args.n / 10),
-      c.put_digits-last.auto.out,
-      c.if-k-eq0.false,
-    )
+put_byte-requires-2 t c = omega (arith, length_digits)
 
 pub returns : goal.returns
 returns t c =
-    rw (digits_more c.args.k c.args.n c.if-k-eq0.false c.if-n-lt10.false, ← c.glyph-2.ensures)
+    rw (digits_more c.args.k c.args.n c.if-k-eq0.false c.if-n-lt10.false)
     (put_both c.put_digits-last.ensures c.put_byte-2.ensures)
