@@ -1,7 +1,10 @@
 -- The answer as one number of 64 bits, and what is answered before there is a request.
-use Rattle.std.specs.Prelude.{Bool, true, false, ℕ, ◌+◌, ◌*◌, ◌/◌, ◌%◌, ◌^◌, Err}
+use Rattle.std.specs.Prelude.{Bool, true, false, ℕ, ◌+◌, ◌*◌, ◌/◌, ◌%◌, ◌^◌, Option, Some, None, Result, Ok, Err}
 use Rattle.types.specs.declared.Refusal.TheVariants as refusal
+use Rattle.types.specs.declared.Shape.{Shape}
 use Rattle.meaning.specs.Answers.{Answer, status_of, value_of}
+use Rattle.abi_numbers.specs.declared.Shut.{Shut}
+use Rattle.abi_numbers.specs.declared.Shut.TheVariants.{Nameless, IllShaped}
 
 -- THE ANSWER AS ONE NUMBER: status · 2^32 + value
 abbrev pub joined : ℕ → ℕ → ℕ
@@ -23,3 +26,13 @@ unfoldable pub shut : Bool → Bool → ℕ
 shut false sound = joined 100 0
 shut true false = code_of (Err refusal.Shape)
 shut true true = 0
+
+-- The same of what the code has found, in the same order.
+abbrev pub shut_code : Shut → ℕ
+shut_code Nameless = joined 100 0
+shut_code IllShaped = code_of (Err refusal.Shape)
+
+abbrev pub asked : {T : Type 0} → Option Shape → Option T → Result (Shape × T) Shut
+asked shape None = Err Nameless
+asked None (Some q) = Err IllShaped
+asked (Some s) (Some q) = Ok (s, q)

@@ -1,97 +1,115 @@
 // What the numbers of a request stand for, and the number of an answer.
-#![tactic(auto)]
+#![tactic(auto, unfolding(crate::specs::Numbers::frame_of, crate::specs::Numbers::side_of, crate::specs::Numbers::way_of))]
 
-ghost use Rattle.std.specs.Prelude.{◌≡◌, ◌&&◌};
+ghost use Rattle.std.specs.Prelude.{◌≡◌, ◌&&◌, eqb};
+ghost use Rattle.std.specs.Bool.{then_some};
 ghost use Rattle.abi_numbers.specs.Numbers.{one_or_two, zero_or_one, frame_of, side_of, way_of, shape_of, request_of};
-ghost use Rattle.abi_numbers.specs.Code.{code_of, shut};
+ghost use Rattle.abi_numbers.specs.Code.{code_of, shut_code, asked};
 
 use answers::{status_of, value_of};
-use types::{Access, Answer, Frame, Shape, Side, Way};
+use types::{Access, Answer, Frame, Refusal, Shape, Side, Way};
 
-// The answer to a number that names no frame, side, way or level: status 100, value 0.
-const NAMELESS: u64 = 429496729600;
-
-// The answer to an mbis that is neither 0 nor 1: refusal 1, value 0.
-const ILL_SHAPED: u64 = 4294967296;
-
-// A number that names a frame, a side or a way.
-pub fn one_or_two(n: u32) -> bool
-    ensures { result ≡ one_or_two n }
+// A frame, a side or a way that no number names is None.
+fn frame_of(n: u32) -> Option<Frame>
+    ensures { result ≡ then_some (one_or_two n) (frame_of n) }
 {
-    (n == 1) | (n == 2)
-}
-
-// A number that is a level, or an mbis.
-pub fn zero_or_one(n: u32) -> bool
-    ensures { result ≡ zero_or_one n }
-{
-    (n == 0) | (n == 1)
-}
-
-// The numbers of an access name a frame, a side and a way.
-pub fn names_access(frame: u32, side: u32, way: u32) -> bool
-    ensures { result ≡ (one_or_two frame && (one_or_two side && one_or_two way)) }
-{
-    one_or_two(frame) & (one_or_two(side) & one_or_two(way))
-}
-
-// 0 where the request may pass; else what it is answered at once.
-pub fn gate(named: bool, mbis: u32) -> u64
-    ensures { result ≡ shut named (zero_or_one mbis) }
-{
-    if !named {
-        return NAMELESS;
-    }
-    if !zero_or_one(mbis) {
-        return ILL_SHAPED;
-    }
-    0
-}
-
-fn frame_of(n: u32) -> Frame
-    ensures { result ≡ frame_of n }
-{
-    if n == 1 { Frame::Dist } else { Frame::Redist }
-}
-
-pub fn side_of(n: u32) -> Side
-    ensures { result ≡ side_of n }
-{
-    if n == 2 {
-        Side::Secure
-    } else {
-        Side::NonSecure
+    match n {
+        1 => Some(Frame::Dist),
+        2 => Some(Frame::Redist),
+        _ => None,
     }
 }
 
-fn way_of(n: u32) -> Way
-    ensures { result ≡ way_of n }
+pub fn side_of(n: u32) -> Option<Side>
+    ensures { result ≡ then_some (one_or_two n) (side_of n) }
 {
-    if n == 2 { Way::Write } else { Way::Read }
+    match n {
+        1 => Some(Side::NonSecure),
+        2 => Some(Side::Secure),
+        _ => None,
+    }
 }
 
-pub fn shape_of(lines: u32, espi: u32, eppi: u32, mbis: u32) -> Shape
-    ensures { result ≡ shape_of lines espi eppi mbis }
+fn way_of(n: u32) -> Option<Way>
+    ensures { result ≡ then_some (one_or_two n) (way_of n) }
 {
-    Shape::new(lines, espi, eppi, mbis == 1)
+    match n {
+        1 => Some(Way::Read),
+        2 => Some(Way::Write),
+        _ => None,
+    }
 }
 
-pub fn request_of(frame: u32, side: u32, way: u32, width: u32, offset: u32, value: u32) -> Access
-    ensures { result ≡ request_of frame side way width offset value }
+// The access of these numbers, if they name a frame, a side and a way.
+#[tactic(auto, unfolding(crate::specs::Numbers::request_of))]
+pub fn request_of(
+    frame: u32,
+    side: u32,
+    way: u32,
+    width: u32,
+    offset: u32,
+    value: u32,
+) -> Option<Access>
+    ensures { result
+        ≡ then_some (one_or_two frame && (one_or_two side && one_or_two way)) (request_of frame side way width offset value) }
 {
-    Access::new(
-        frame_of(frame),
-        side_of(side),
-        way_of(way),
-        width,
-        offset,
-        value,
-    )
+    let frame = frame_of(frame)?;
+    let side = side_of(side)?;
+    let way = way_of(way)?;
+    Some(Access::new(frame, side, way, width, offset, value))
+}
+
+// A wire's level, or an mbis.
+pub fn flag_of(n: u32) -> Option<bool>
+    ensures { result ≡ then_some (zero_or_one n) (eqb n 1) }
+{
+    match n {
+        0 => Some(false),
+        1 => Some(true),
+        _ => None,
+    }
+}
+
+// The shape of these numbers, if mbis is one of its two.
+#[tactic(auto, unfolding(crate::specs::Numbers::shape_of))]
+pub fn shape_of(lines: u32, espi: u32, eppi: u32, mbis: u32) -> Option<Shape>
+    ensures { result ≡ then_some (zero_or_one mbis) (shape_of lines espi eppi mbis) }
+{
+    Some(Shape::new(lines, espi, eppi, flag_of(mbis)?))
+}
+
+// Why a call is answered before the controller is asked: a number of its request names nothing, or mbis is neither 0 nor 1.
+#[derive(Clone, Copy)]
+pub enum Shut {
+    Nameless,
+    IllShaped,
+}
+
+impl Shut {
+    // Status 100, outside document 01's numbers, or refusal 1.
+    pub fn code(self) -> u64
+        ensures { result ≡ shut_code self }
+    {
+        match self {
+            Shut::Nameless => 100 << 32,
+            Shut::IllShaped => code_of(Err(Refusal::Shape)),
+        }
+    }
+}
+
+// The shape and the request that the controller is asked with, if the numbers of the call gave both.
+pub fn asked<T: Drop>(shape: Option<Shape>, request: Option<T>) -> Result<(Shape, T), Shut>
+    ensures { result ≡ asked shape request }
+{
+    let request = request.ok_or(Shut::Nameless)?;
+    let shape = shape.ok_or(Shut::IllShaped)?;
+    Ok((shape, request))
 }
 
 // status · 2^32 + value
+#[tactic(auto, unfolding(crate::specs::Code::code_of))]
 pub fn code_of(answer: Answer) -> u64
     ensures { result ≡ code_of answer }
 {
-    (status_of(answer) as u64) * 4294967296 + (value_of(answer) as u64)
+    (u64::from(status_of(answer)) << 32) + u64::from(value_of(answer))
 }

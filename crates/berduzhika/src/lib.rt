@@ -13,9 +13,7 @@ ghost use Rattle.std.specs.Prelude.{◌≡◌};
 ghost use Rattle.meaning.specs.Layout.{lent};
 ghost use Rattle.berduzhika.specs.Returned.{access_returns, wire_returns, activate_returns, deactivate_returns, reset_returns};
 
-use abi_numbers::{
-    code_of, gate, names_access, one_or_two, request_of, shape_of, side_of, zero_or_one,
-};
+use abi_numbers::{Shut, asked, code_of, flag_of, request_of, shape_of, side_of};
 use controller::{access, event, reset};
 use types::Event;
 
@@ -44,12 +42,11 @@ pub extern "C" fn berduzhika_access(
         ≡ access_returns lines espi eppi mbis frame side way width offset value
         (lent dist.old redist.old dist_presence.now redist_presence.now) }
 {
-    let shut = gate(names_access(frame, side, way), mbis);
-    if shut != 0 {
-        return shut;
-    }
-    let shape = shape_of(lines, espi, eppi, mbis);
     let request = request_of(frame, side, way, width, offset, value);
+    let (shape, request) = match asked(shape_of(lines, espi, eppi, mbis), request) {
+        Ok(asked) => asked,
+        Err(shut) => return shut.code(),
+    };
     code_of(access(dist, redist, dist_presence, redist_presence, shape, request))
 }
 
@@ -74,12 +71,11 @@ pub extern "C" fn berduzhika_wire(
         ≡ wire_returns lines espi eppi mbis intid level
         (lent dist.old redist.old dist_presence.now redist_presence.now) }
 {
-    let shut = gate(zero_or_one(level), mbis);
-    if shut != 0 {
-        return shut;
-    }
-    let shape = shape_of(lines, espi, eppi, mbis);
-    let wire = Event::Wire(level == 1);
+    let (shape, high) = match asked(shape_of(lines, espi, eppi, mbis), flag_of(level)) {
+        Ok(asked) => asked,
+        Err(shut) => return shut.code(),
+    };
+    let wire = Event::Wire(high);
     code_of(event(
         dist,
         redist,
@@ -112,12 +108,11 @@ pub extern "C" fn berduzhika_activate(
         ≡ activate_returns lines espi eppi mbis side intid
         (lent dist.old redist.old dist_presence.now redist_presence.now) }
 {
-    let shut = gate(one_or_two(side), mbis);
-    if shut != 0 {
-        return shut;
-    }
-    let shape = shape_of(lines, espi, eppi, mbis);
-    let taken = Event::Activate(side_of(side));
+    let (shape, side) = match asked(shape_of(lines, espi, eppi, mbis), side_of(side)) {
+        Ok(asked) => asked,
+        Err(shut) => return shut.code(),
+    };
+    let taken = Event::Activate(side);
     code_of(event(
         dist,
         redist,
@@ -150,12 +145,11 @@ pub extern "C" fn berduzhika_deactivate(
         ≡ deactivate_returns lines espi eppi mbis side intid
         (lent dist.old redist.old dist_presence.now redist_presence.now) }
 {
-    let shut = gate(one_or_two(side), mbis);
-    if shut != 0 {
-        return shut;
-    }
-    let shape = shape_of(lines, espi, eppi, mbis);
-    let done = Event::Deactivate(side_of(side));
+    let (shape, side) = match asked(shape_of(lines, espi, eppi, mbis), side_of(side)) {
+        Ok(asked) => asked,
+        Err(shut) => return shut.code(),
+    };
+    let done = Event::Deactivate(side);
     code_of(event(
         dist,
         redist,
@@ -168,6 +162,7 @@ pub extern "C" fn berduzhika_deactivate(
 }
 
 // All record bytes become 0; presence stays.
+#[tactic(auto, unfolding(crate::specs::Returned::after_gate, abi_numbers::specs::Code::shut))]
 #[unsafe(no_mangle)]
 pub extern "C" fn berduzhika_reset(
     dist: &mut [u8],
@@ -186,10 +181,8 @@ pub extern "C" fn berduzhika_reset(
         ≡ reset_returns lines espi eppi mbis
         (lent dist.old redist.old dist_presence.now redist_presence.now) }
 {
-    let shut = gate(true, mbis);
-    if shut != 0 {
-        return shut;
-    }
-    let shape = shape_of(lines, espi, eppi, mbis);
+    let Some(shape) = shape_of(lines, espi, eppi, mbis) else {
+        return Shut::IllShaped.code();
+    };
     code_of(reset(dist, redist, dist_presence, redist_presence, shape))
 }

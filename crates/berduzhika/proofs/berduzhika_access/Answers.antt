@@ -1,0 +1,14 @@
+-- `berduzhika_access` is `access_returns`. Ways out: a call that is answered at once, and the controller's answer as one number.
+use Rattle.meaning.specs.Rule as step
+use Rattle.berduzhika.proofs.Gate.{kept, passed}
+use Rattle.berduzhika.proofs.berduzhika_access.Goals as goal
+
+pub returns-in-Err : goal.returns-in-Err
+returns-in-Err c =
+    let e = rw (c.asked.ensures, c.shape_of.ensures, c.request_of-request.ensures) at c.in-Err.is in
+    rw c.code.ensures (kept _ _ step.access _ _ _ _ e)
+
+pub returns : goal.returns
+returns c =
+    let e = rw (c.asked.ensures, c.shape_of.ensures, c.request_of-request.ensures) at c.in-Ok.is in
+    rw c.code_of.ensures (passed _ _ step.access _ _ _ _ _ _ e c.access.ensures)

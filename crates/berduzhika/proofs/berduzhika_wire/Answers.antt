@@ -1,0 +1,15 @@
+-- `berduzhika_wire` is `wire_returns`. Ways out: a call that is answered at once, and the controller's answer as one number.
+use Rattle.types.specs.declared.Event.TheVariants.{Wire}
+use Rattle.meaning.specs.Rule as step
+use Rattle.berduzhika.proofs.Gate.{kept, passed}
+use Rattle.berduzhika.proofs.berduzhika_wire.Goals as goal
+
+pub returns-in-Err : goal.returns-in-Err
+returns-in-Err c =
+    let e = rw (c.asked.ensures, c.shape_of.ensures, c.flag_of.ensures) at c.in-Err.is in
+    rw c.code.ensures (kept _ _ (λ high. step.happens (Wire high) c.args.intid) _ _ _ _ e)
+
+pub returns : goal.returns
+returns c =
+    let e = rw (c.asked.ensures, c.shape_of.ensures, c.flag_of.ensures) at c.in-Ok.is in
+    rw c.code_of.ensures (passed _ _ (λ high. step.happens (Wire high) c.args.intid) _ _ _ _ _ _ e c.event.ensures)
