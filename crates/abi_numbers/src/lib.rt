@@ -9,7 +9,7 @@ ghost use Rattle.abi_numbers.specs.Code.{code_of, shut_code, asked};
 use answers::{status_of, value_of};
 use types::{Access, Answer, Frame, Refusal, Shape, Side, Way};
 
-// A frame, a side or a way that no number names is None.
+// A number that names no frame, side or way gives None. No TryFrom: neither it nor they are types of this crate.
 fn frame_of(n: u32) -> Option<Frame>
     ensures { result ≡ then_some (one_or_two n) (frame_of n) }
 {

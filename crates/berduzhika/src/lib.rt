@@ -1,6 +1,7 @@
 // The library for C and Rust: each function is one of the controller's, with numbers for its request and one number of 64 bits,
 // status · 2^32 + value, for its answer. include/berduzhika.h declares them and says what each number stands for. There is no
-// condition on any number or length; the promise of each function is one equation, refusals included.
+// condition on any number or length; the promise of each function is one equation, refusals included. The C interface needs each
+// table and each number as a parameter of its own.
 //
 //   dist             2,012 record bytes of the Distributor      lent for reading and writing
 //   redist           96 record bytes of the Redistributor       lent for reading and writing

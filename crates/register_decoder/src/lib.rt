@@ -47,7 +47,7 @@ pub fn place_of(request: Access) -> Decoded
     Ok(place)
 }
 
-// The INTID that a frame's extended words are counted from.
+// The INTID that a frame's extended words are counted from. No method: a frame is of `types`, where no rule stands.
 fn origin(frame: Frame) -> u32
     ensures { result ≡ origin frame }
 {

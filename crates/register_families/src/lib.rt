@@ -22,7 +22,8 @@ pub trait Register {
     const ROW: Row;
 }
 
-// What the families with one bit for each interrupt share. The kind and the offsets are each family's own.
+// What the families with one bit for each interrupt share; the kind and the offsets are each family's own. Not values that the trait
+// provides, since a proof knows those of no impl.
 const ONE_BIT: Row = Row {
     kind: Kind::Trigger,
     bits: 1,
