@@ -33,7 +33,7 @@ fn write(dist: &mut [u8], redist: &mut [u8], bank: Bank, side: Side, target: Tar
         redist.new at i }
 {
     match target {
-        // two calls: one variable for one of two borrows is not covered, and a function that returned it would forget the other table
+        // two calls: one variable for either of two borrows gets no proof, and no contract says of a returned one whose it is
         Target::Digits(window) => match bank.frame {
             Frame::Dist => write_word(dist, bank, side, window, value),
             Frame::Redist => write_word(redist, bank, side, window, value),
