@@ -2,7 +2,7 @@
 --   ill               refusal 1
 --   access_refused    refusals 2 to 6
 --   access_served     an access at a place
---   event_happened    an event on an interrupt of a frame
+--   event_banked      an event on an interrupt of a bank
 --   all_cleared       reset
 use Rattle.std.specs.Prelude.{Ok, Err}
 use mathlib.Core.Path.{◌≡◌, refl, sym, ap, subst, ◌∙◌}

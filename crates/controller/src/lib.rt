@@ -62,6 +62,7 @@ fn bank_of<'a>(
 }
 
 // A read or a write at an offset of a frame.
+#[tactic(auto, using(crate::proofs::Outcomes::ill))]
 pub fn access(
     dist: &mut [u8],
     redist: &mut [u8],
@@ -87,6 +88,7 @@ pub fn access(
 }
 
 // An event on an INTID: a wire goes to a level, a side activates or deactivates.
+#[tactic(auto, using(crate::proofs::Outcomes::ill))]
 pub fn event(
     dist: &mut [u8],
     redist: &mut [u8],
@@ -115,6 +117,7 @@ pub fn event(
 }
 
 // All record bytes become 0; presence stays.
+#[tactic(auto, using(crate::proofs::Outcomes::ill))]
 pub fn reset(
     dist: &mut [u8],
     redist: &mut [u8],

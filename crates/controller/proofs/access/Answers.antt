@@ -1,17 +1,11 @@
--- `access` is `stepped`: refusal 1 (returns-then-not-well_formed), refusals 2 to 6 (returns-in_err-place), an access at its place
--- (returns).
+-- `access` is `stepped` behind refusal 1: refusals 2 to 6 (returns-in_err-place), an access at its place (returns).
 use mathlib.Core.Path.{sym, ◌∙◌}
 use Rattle.std.proofs.lemmas.Result.{err_from_is_err_and}
 use Rattle.meaning.specs.Layout.{Tables, lent}
-use Rattle.meaning.specs.Rule as step
 use Rattle.register_decoder.proofs.Windows.{placed_number}
 use Rattle.controller.proofs.Places.{target_room}
-use Rattle.controller.proofs.Outcomes.{ill, access_refused, access_served}
+use Rattle.controller.proofs.Outcomes.{access_refused, access_served}
 use Rattle.controller.proofs.access.Goals as goal
-
-pub returns-then-not-well_formed : goal.returns-then-not-well_formed
-returns-then-not-well_formed c =
-    ill c.args.shape (step.access c.args.request) _ (sym c.well_formed-2.ensures.judged ∙ c.if-not-well_formed.true)
 
 pub returns-in_err-place : goal.returns-in_err-place
 returns-in_err-place c =

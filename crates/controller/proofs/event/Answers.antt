@@ -1,16 +1,11 @@
--- `event` is `stepped`: refusal 1 (returns-then-not-well_formed), an interrupt of the Distributor's bank (returns-in-Dist), of the
--- Redistributor's (returns-in-Redist).
+-- `event` is `stepped` behind refusal 1: an interrupt of the Distributor's bank (returns-in-Dist), of the Redistributor's
+-- (returns-in-Redist).
 use mathlib.Core.Path.{sym, ap, ◌∙◌}
 use Rattle.types.specs.declared.Frame.{Frame}
 use Rattle.types.specs.declared.Frame.TheVariants.{Dist, Redist}
 use Rattle.meaning.specs.Layout.{Tables, lent, presence_of}
-use Rattle.meaning.specs.Rule.{happens}
-use Rattle.controller.proofs.Outcomes.{ill, event_banked}
+use Rattle.controller.proofs.Outcomes.{event_banked}
 use Rattle.controller.proofs.event.Goals as goal
-
-pub returns-then-not-well_formed : goal.returns-then-not-well_formed
-returns-then-not-well_formed c =
-    ill c.args.shape (happens c.args.event c.args.intid) _ (sym c.well_formed-2.ensures.judged ∙ c.if-not-well_formed.true)
 
 pub returns-in-Dist : goal.returns-in-Dist
 returns-in-Dist c =
