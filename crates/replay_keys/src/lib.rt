@@ -67,7 +67,6 @@ impl Key {
 }
 
 #[tactic(auto, using(text::proofs::Texts::begins_stripped), unfolding(crate::specs::Keys::number_at, text::specs::Number::limited))]
-#[inline(always)]
 fn number_at(line: &[u8], key: &[u8], most: u32) -> Option<u32>
     ensures { result ≡ number_at most key.now line.now }
 {
@@ -76,7 +75,6 @@ fn number_at(line: &[u8], key: &[u8], most: u32) -> Option<u32>
 }
 
 #[tactic(auto, using(text::proofs::Texts::same_compared), unfolding(crate::specs::Keys::one_of))]
-#[inline(always)]
 fn one_of(line: &[u8], first: &[u8], second: &[u8]) -> Option<u32>
     ensures { result ≡ one_of first.now second.now line.now }
 {
