@@ -3,20 +3,10 @@ use crate::asked::{ALL, BENCH, Built, FEWER, Machine};
 use std::io;
 use types::{Access, Event, Frame, Shape, Side};
 
-// A wire that goes low.
-fn low(rt: &impl Print, shape: Shape, present: u32, intid: u32) -> io::Result<()> {
+// A wire that goes low; `present` is each word of presence.
+pub fn wire(rt: &impl Print, shape: Shape, present: u32, intid: u32) -> io::Result<()> {
     let answer = Machine::new(shape, present).event(intid, Event::Wire(false));
     println!(rt; "wire{} intid={intid}{answer}", Built(shape))
-}
-
-// With all interrupts present.
-pub fn wire(rt: &impl Print, shape: Shape, intid: u32) -> io::Result<()> {
-    low(rt, shape, ALL, intid)
-}
-
-// With the bench shape, the first interrupt of each word missing.
-pub fn fewer_wire(rt: &impl Print, intid: u32) -> io::Result<()> {
-    low(rt, BENCH, FEWER, intid)
 }
 
 // A read of the Non-secure side, with the bench shape.

@@ -85,17 +85,11 @@ fn regroup(rt: &impl Print, record: u8, register: Register, value: u32) -> io::R
     then(rt, &mut machine, ISENABLER9)
 }
 
-fn activated(rt: &impl Print, record: u8) -> io::Result<()> {
+// The Non-secure side activates or deactivates 300, and what it then reads.
+fn happened(rt: &impl Print, record: u8, does: &str, what: Event) -> io::Result<()> {
     let mut machine = Machine::with_record(record);
-    let answer = machine.event(300, Event::Activate(Side::NonSecure));
-    println!(rt; "record={record} Non-secure activates 300{answer}")?;
-    then(rt, &mut machine, ISACTIVER9)
-}
-
-fn deactivated(rt: &impl Print, record: u8) -> io::Result<()> {
-    let mut machine = Machine::with_record(record);
-    let answer = machine.event(300, Event::Deactivate(Side::NonSecure));
-    println!(rt; "record={record} Non-secure deactivates 300{answer}")?;
+    let answer = machine.event(300, what);
+    println!(rt; "record={record} Non-secure {does} 300{answer}")?;
     then(rt, &mut machine, ISACTIVER9)
 }
 
@@ -108,10 +102,12 @@ pub fn run(rt: &impl Print) -> io::Result<()> {
     set(rt, 192, ISENABLER9)?;
     set(rt, 192, ISPENDR9)?;
     set(rt, 128, ISPENDR9)?;
-    activated(rt, 195)?;
-    activated(rt, 131)?;
-    deactivated(rt, 209)?;
-    deactivated(rt, 145)?;
+    let activate = Event::Activate(Side::NonSecure);
+    happened(rt, 195, "activates", activate)?;
+    happened(rt, 131, "activates", activate)?;
+    let deactivate = Event::Deactivate(Side::NonSecure);
+    happened(rt, 209, "deactivates", deactivate)?;
+    happened(rt, 145, "deactivates", deactivate)?;
     regroup(rt, 193, IGRPMODR9, 0)?;
     regroup(rt, 65, IGRPMODR9, 4096)?;
     regroup(rt, 193, IGROUPR9, 0)

@@ -42,7 +42,7 @@ pub fn run(rt: &impl Print) -> io::Result<()> {
     taken(rt, 0x10000 + 8492)
 }
 
-// A wire that goes low, with the bench shape, on tables of any length.
+// A wire that goes low, with the bench shape, on tables of any length: no machine, since its arrays have the right ones.
 fn wire(
     rt: &impl Print,
     dist: &mut [u8],

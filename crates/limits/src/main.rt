@@ -2,7 +2,7 @@
 // the request and its answer. The expected output (stdout) is written from the two documents and not from this program.
 #![tactic(auto)]
 
-use asked::BENCH;
+use asked::{ALL, BENCH, FEWER};
 use std::io;
 use types::{Frame, Shape, Side};
 
@@ -14,21 +14,21 @@ mod lent;
 // Wires that go low. What a shape brings, and what is one past it.
 fn bench(rt: &impl Print) -> io::Result<()> {
     for intid in [319, 320, 4223, 4224, 1087, 1088, 65836, 4294967295, 15, 16] {
-        fresh::wire(rt, BENCH, intid)?;
+        fresh::wire(rt, BENCH, ALL, intid)?;
     }
     Ok(())
 }
 
 fn full(rt: &impl Print) -> io::Result<()> {
     for intid in [1019, 1020, 1055, 1119, 1120, 4095, 5119, 5120] {
-        fresh::wire(rt, Shape::new(31, 32, 2, true), intid)?;
+        fresh::wire(rt, Shape::new(31, 32, 2, true), ALL, intid)?;
     }
     Ok(())
 }
 
 fn empty(rt: &impl Print) -> io::Result<()> {
     for intid in [31, 32, 1056, 4096] {
-        fresh::wire(rt, Shape::new(0, 0, 0, true), intid)?;
+        fresh::wire(rt, Shape::new(0, 0, 0, true), ALL, intid)?;
     }
     Ok(())
 }
@@ -43,7 +43,7 @@ fn off(rt: &impl Print) -> io::Result<()> {
         (9, 4294967295, 1),
         (9, 4, 4294967295),
     ] {
-        fresh::wire(rt, Shape::new(lines, espi, eppi, true), 319)?;
+        fresh::wire(rt, Shape::new(lines, espi, eppi, true), ALL, 319)?;
     }
     Ok(())
 }
@@ -85,7 +85,7 @@ fn redist(rt: &impl Print) -> io::Result<()> {
 // An SGI and an SPI whose presence bits are 0 are missing. The Secure side reads the other SGIs as edge.
 fn missing(rt: &impl Print) -> io::Result<()> {
     for intid in [0, 1, 32] {
-        fresh::fewer_wire(rt, intid)?;
+        fresh::wire(rt, BENCH, FEWER, intid)?;
     }
     fresh::fewer_edges(rt, "ICFGR0", Side::Secure)?;
     fresh::fewer_edges(rt, "ICFGR0 for the Non-secure side", Side::NonSecure)
