@@ -9,40 +9,92 @@ ghost use Rattle.abi_numbers.specs.Code.{code_of, shut_code, asked};
 use answers::{status_of, value_of};
 use types::{Access, Answer, Frame, Refusal, Shape, Side, Way};
 
-// A number that names no frame, side or way gives None. No TryFrom: neither it nor they are types of this crate.
-fn frame_of(n: u32) -> Option<Frame>
-    ensures { result ≡ then_some (one_or_two n) (frame_of n) }
+// A number that names a frame, a side or a way.
+pub fn one_or_two(n: u32) -> bool
+    ensures { result ≡ one_or_two n }
 {
-    match n {
-        1 => Some(Frame::Dist),
-        2 => Some(Frame::Redist),
-        _ => None,
+    matches!(n, 1 | 2)
+}
+
+// A number that is a level, or an mbis.
+pub fn zero_or_one(n: u32) -> bool
+    ensures { result ≡ zero_or_one n }
+{
+    matches!(n, 0 | 1)
+}
+
+// The numbers of an access name a frame, a side and a way.
+pub fn names_access(frame: u32, side: u32, way: u32) -> bool
+    ensures { result ≡ (one_or_two frame && (one_or_two side && one_or_two way)) }
+{
+    one_or_two(frame) && one_or_two(side) && one_or_two(way)
+}
+
+// What a number stands for, whether or not it names anything: above all, one that is not 2 is never the Secure side. No TryFrom: neither
+// the number nor the enums are types of this crate.
+fn frame_of(n: u32) -> Frame
+    ensures { result ≡ frame_of n }
+{
+    if n == 1 { Frame::Dist } else { Frame::Redist }
+}
+
+pub fn side_of(n: u32) -> Side
+    ensures { result ≡ side_of n }
+{
+    if n == 2 {
+        Side::Secure
+    } else {
+        Side::NonSecure
     }
 }
 
-pub fn side_of(n: u32) -> Option<Side>
+fn way_of(n: u32) -> Way
+    ensures { result ≡ way_of n }
+{
+    if n == 2 { Way::Write } else { Way::Read }
+}
+
+#[tactic(auto, unfolding(crate::specs::Numbers::shape_of))]
+pub fn shape_of(lines: u32, espi: u32, eppi: u32, mbis: u32) -> Shape
+    ensures { result ≡ shape_of lines espi eppi mbis }
+{
+    Shape::new(lines, espi, eppi, mbis == 1)
+}
+
+#[tactic(auto, unfolding(crate::specs::Numbers::request_of))]
+pub fn request_of(frame: u32, side: u32, way: u32, width: u32, offset: u32, value: u32) -> Access
+    ensures { result ≡ request_of frame side way width offset value }
+{
+    Access::new(
+        frame_of(frame),
+        side_of(side),
+        way_of(way),
+        width,
+        offset,
+        value,
+    )
+}
+
+// The same of numbers that are what they have to be, and None of any other.
+pub fn side_named(n: u32) -> Option<Side>
     ensures { result ≡ then_some (one_or_two n) (side_of n) }
 {
-    match n {
-        1 => Some(Side::NonSecure),
-        2 => Some(Side::Secure),
-        _ => None,
-    }
+    one_or_two(n).then_some(side_of(n))
 }
 
-fn way_of(n: u32) -> Option<Way>
-    ensures { result ≡ then_some (one_or_two n) (way_of n) }
+pub fn level_named(n: u32) -> Option<bool>
+    ensures { result ≡ then_some (zero_or_one n) (eqb n 1) }
 {
-    match n {
-        1 => Some(Way::Read),
-        2 => Some(Way::Write),
-        _ => None,
-    }
+    zero_or_one(n).then_some(n == 1)
 }
 
-// The access of these numbers, if they name a frame, a side and a way.
-#[tactic(auto, unfolding(crate::specs::Numbers::request_of))]
-pub fn request_of(
+pub fn shape_named(lines: u32, espi: u32, eppi: u32, mbis: u32) -> Option<Shape>
+    ensures { result ≡ then_some (zero_or_one mbis) (shape_of lines espi eppi mbis) }
+{
+    zero_or_one(mbis).then_some(shape_of(lines, espi, eppi, mbis))
+}
+
+pub fn access_named(
     frame: u32,
     side: u32,
     way: u32,
@@ -53,29 +105,7 @@ pub fn request_of(
     ensures { result
         ≡ then_some (one_or_two frame && (one_or_two side && one_or_two way)) (request_of frame side way width offset value) }
 {
-    let frame = frame_of(frame)?;
-    let side = side_of(side)?;
-    let way = way_of(way)?;
-    Some(Access::new(frame, side, way, width, offset, value))
-}
-
-// A wire's level, or an mbis.
-pub fn flag_of(n: u32) -> Option<bool>
-    ensures { result ≡ then_some (zero_or_one n) (eqb n 1) }
-{
-    match n {
-        0 => Some(false),
-        1 => Some(true),
-        _ => None,
-    }
-}
-
-// The shape of these numbers, if mbis is one of its two.
-#[tactic(auto, unfolding(crate::specs::Numbers::shape_of))]
-pub fn shape_of(lines: u32, espi: u32, eppi: u32, mbis: u32) -> Option<Shape>
-    ensures { result ≡ then_some (zero_or_one mbis) (shape_of lines espi eppi mbis) }
-{
-    Some(Shape::new(lines, espi, eppi, flag_of(mbis)?))
+    names_access(frame, side, way).then_some(request_of(frame, side, way, width, offset, value))
 }
 
 // Why a call is answered before the controller is asked: a number of its request names nothing, or mbis is neither 0 nor 1.

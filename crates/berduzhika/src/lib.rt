@@ -16,7 +16,7 @@ ghost use Rattle.std.specs.Prelude.{◌≡◌};
 ghost use Rattle.meaning.specs.Layout.{lent};
 ghost use Rattle.berduzhika.specs.Returned.{access_returns, wire_returns, activate_returns, deactivate_returns, reset_returns};
 
-use abi_numbers::{Shut, asked, code_of, flag_of, request_of, shape_of, side_of};
+use abi_numbers::{Shut, access_named, asked, code_of, level_named, shape_named, side_named};
 use controller::{access, event, reset};
 use types::Event;
 
@@ -45,8 +45,8 @@ pub extern "C" fn berduzhika_access(
         ≡ access_returns lines espi eppi mbis frame side way width offset value
         (lent dist.old redist.old dist_presence.now redist_presence.now) }
 {
-    let request = request_of(frame, side, way, width, offset, value);
-    let (shape, request) = match asked(shape_of(lines, espi, eppi, mbis), request) {
+    let request = access_named(frame, side, way, width, offset, value);
+    let (shape, request) = match asked(shape_named(lines, espi, eppi, mbis), request) {
         Ok(asked) => asked,
         Err(shut) => return shut.code(),
     };
@@ -74,7 +74,7 @@ pub extern "C" fn berduzhika_wire(
         ≡ wire_returns lines espi eppi mbis intid level
         (lent dist.old redist.old dist_presence.now redist_presence.now) }
 {
-    let (shape, high) = match asked(shape_of(lines, espi, eppi, mbis), flag_of(level)) {
+    let (shape, high) = match asked(shape_named(lines, espi, eppi, mbis), level_named(level)) {
         Ok(asked) => asked,
         Err(shut) => return shut.code(),
     };
@@ -111,7 +111,7 @@ pub extern "C" fn berduzhika_activate(
         ≡ activate_returns lines espi eppi mbis side intid
         (lent dist.old redist.old dist_presence.now redist_presence.now) }
 {
-    let (shape, side) = match asked(shape_of(lines, espi, eppi, mbis), side_of(side)) {
+    let (shape, side) = match asked(shape_named(lines, espi, eppi, mbis), side_named(side)) {
         Ok(asked) => asked,
         Err(shut) => return shut.code(),
     };
@@ -148,7 +148,7 @@ pub extern "C" fn berduzhika_deactivate(
         ≡ deactivate_returns lines espi eppi mbis side intid
         (lent dist.old redist.old dist_presence.now redist_presence.now) }
 {
-    let (shape, side) = match asked(shape_of(lines, espi, eppi, mbis), side_of(side)) {
+    let (shape, side) = match asked(shape_named(lines, espi, eppi, mbis), side_named(side)) {
         Ok(asked) => asked,
         Err(shut) => return shut.code(),
     };
@@ -184,7 +184,7 @@ pub extern "C" fn berduzhika_reset(
         ≡ reset_returns lines espi eppi mbis
         (lent dist.old redist.old dist_presence.now redist_presence.now) }
 {
-    let Some(shape) = shape_of(lines, espi, eppi, mbis) else {
+    let Some(shape) = shape_named(lines, espi, eppi, mbis) else {
         return Shut::IllShaped.code();
     };
     code_of(reset(dist, redist, dist_presence, redist_presence, shape))

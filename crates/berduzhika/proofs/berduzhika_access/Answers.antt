@@ -5,10 +5,10 @@ use Rattle.berduzhika.proofs.berduzhika_access.Goals as goal
 
 pub returns-in-Err : goal.returns-in-Err
 returns-in-Err c =
-    let e = rw (c.asked.ensures, c.shape_of.ensures, c.request_of-request.ensures) at c.in-Err.is in
+    let e = rw (c.asked.ensures, c.shape_named.ensures, c.access_named-request.ensures) at c.in-Err.is in
     rw c.code.ensures (kept _ _ step.access _ _ _ _ e)
 
 pub returns : goal.returns
 returns c =
-    let e = rw (c.asked.ensures, c.shape_of.ensures, c.request_of-request.ensures) at c.in-Ok.is in
+    let e = rw (c.asked.ensures, c.shape_named.ensures, c.access_named-request.ensures) at c.in-Ok.is in
     rw c.code_of.ensures (passed _ _ step.access _ _ _ _ _ _ e c.access.ensures)

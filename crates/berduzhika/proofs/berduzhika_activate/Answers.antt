@@ -6,10 +6,10 @@ use Rattle.berduzhika.proofs.berduzhika_activate.Goals as goal
 
 pub returns-in-Err : goal.returns-in-Err
 returns-in-Err c =
-    let e = rw (c.asked.ensures, c.shape_of.ensures, c.side_of.ensures) at c.in-Err.is in
+    let e = rw (c.asked.ensures, c.shape_named.ensures, c.side_named.ensures) at c.in-Err.is in
     rw c.code.ensures (kept _ _ (λ side. step.happens (Activate side) c.args.intid) _ _ _ _ e)
 
 pub returns : goal.returns
 returns c =
-    let e = rw (c.asked.ensures, c.shape_of.ensures, c.side_of.ensures) at c.in-Ok.is in
+    let e = rw (c.asked.ensures, c.shape_named.ensures, c.side_named.ensures) at c.in-Ok.is in
     rw c.code_of.ensures (passed _ _ (λ side. step.happens (Activate side) c.args.intid) _ _ _ _ _ _ e c.event.ensures)
