@@ -1,4 +1,5 @@
-// A decoded access: what a read of its target shows, and what a write to it leaves.
+// A decoded access: what a read of its target shows, and what a write to it leaves. The lengths of the records (`Room`) stay a clause of
+// each function: both tables are lent beside the bank, since `part` takes both, and a write keeps the other.
 ghost use Rattle.std.specs.Prelude.{◌≡◌, false, ℕ};
 ghost use Rattle.meaning.specs.Interrupt.{Interrupt, sgi};
 ghost use Rattle.meaning.specs.Registers.{written_value};
