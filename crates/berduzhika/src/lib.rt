@@ -8,8 +8,6 @@
 //   dist_presence    63 presence words                          lent for reading
 //   redist_presence  3 presence words                           lent for reading
 //   lines espi eppi mbis   the shape: document 01's numbers, mbis 0 or 1
-//
-// Tables and numbers are parameters one by one, and no structs, since C passes them so.
 #![tactic(auto)]
 
 ghost use Rattle.std.specs.Prelude.{◌≡◌};
