@@ -88,17 +88,17 @@ impl Access {
     }
 }
 
-// The bits of an interrupt's record.
+// The bits of an interrupt's record, each by its value in the byte.
 #[derive(Clone, Copy)]
 pub enum Bit {
-    Enabled,
-    Latch,
-    Wire,
-    MessageLevel,
-    Active,
-    Edge,
-    Group,
-    Modifier,
+    Enabled = 1,
+    Latch = 2,
+    Wire = 4,
+    MessageLevel = 8,
+    Active = 16,
+    Edge = 32,
+    Group = 64,
+    Modifier = 128,
 }
 
 // The register families that hold a digit for each interrupt.
