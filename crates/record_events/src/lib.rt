@@ -1,23 +1,20 @@
-// What the events answer of a record and do to it: wire, activate, deactivate. `soft`: the interrupt is an SGI.
+// What the events answer of a record and do to it: wire, activate, deactivate.
 #![tactic(auto)]
 
-ghost use Rattle.std.specs.Prelude.{◌≡◌, Bool, cond, Ok, Err};
+ghost use Rattle.std.specs.Prelude.{◌≡◌, cond};
 ghost use Rattle.types.specs.declared.Shape.{Shape};
-ghost use Rattle.meaning.specs.Interrupt.{Interrupt, sgi};
-ghost use Rattle.meaning.specs.Cell.{decode, encode};
 ghost use Rattle.meaning.specs.Rule.{sees_by, ready, event_answer, happened};
+ghost use Rattle.record.specs.Known.{Becomes, OfEach};
 
-use record::{edge_of, is_pending, side_sees};
-use record_bits::{has, put};
+use record::Record;
 use types::{Answer, Bit, Event, Refusal};
 
-fn sees_by(event: Event, r: u8) -> bool
-    ensures { (p : Bool) → result ≡ sees_by event (decode p r) }
+fn sees_by(r: Record, event: Event) -> bool
+    ensures { result ≡ sees_by event r.cell }
 {
     match event {
         Event::Wire(_) => true,
-        Event::Activate(side) => side_sees(side, r),
-        Event::Deactivate(side) => side_sees(side, r),
+        Event::Activate(side) | Event::Deactivate(side) => r.seen_by(side),
     }
 }
 
@@ -32,46 +29,50 @@ fn done_if(held: bool, why: Refusal) -> Answer
 }
 
 // A wire is no SGI's; what is activated is enabled, pending and not active; what is deactivated is active.
-fn ready(event: Event, soft: bool, r: u8) -> Answer
-    ensures { (s : Shape) (i : Interrupt) (p : Bool) → sgi i ≡ soft → result ≡ ready s event i (decode p r) }
+#[tactic(auto, unfolding(meaning::specs::Cell::get))]
+fn ready(r: Record, event: Event) -> Answer
+    ensures { (s : Shape) → OfEach r (λ i c. result ≡ ready s event i c) }
 {
     match event {
-        Event::Wire(_) => done_if(!soft, Refusal::SgiWire),
+        Event::Wire(_) => done_if(!r.is_soft(), Refusal::SgiWire),
         Event::Activate(_) => done_if(
-            has(Bit::Enabled, r) & (is_pending(soft, r) & !has(Bit::Active, r)),
+            r.has(Bit::Enabled) && r.is_pending() && !r.has(Bit::Active),
             Refusal::State,
         ),
-        Event::Deactivate(_) => done_if(has(Bit::Active, r), Refusal::State),
+        Event::Deactivate(_) => done_if(r.has(Bit::Active), Refusal::State),
     }
 }
 
 // What the event is answered: 7, 8 or 9, the first that applies; otherwise done.
-pub fn answer_to(event: Event, implemented: bool, soft: bool, r: u8) -> Answer
-    ensures { (s : Shape) (i : Interrupt) → sgi i ≡ soft → result ≡ event_answer s event i (decode implemented r) }
+#[tactic(auto, unfolding(meaning::specs::Rule::event_answer))]
+pub fn answer_to(r: Record, event: Event) -> Answer
+    ensures { (s : Shape) → OfEach r (λ i c. result ≡ event_answer s event i c) }
 {
-    if implemented & sees_by(event, r) {
-        ready(event, soft, r)
+    if r.is_implemented() && sees_by(r, event) {
+        ready(r, event)
     } else {
         Err(Refusal::Intid)
     }
 }
 
 // The level is stored; a rise on an edge interrupt sets the latch.
-fn wired(level: bool, soft: bool, r: u8) -> u8
-    ensures { (s : Shape) (i : Interrupt) (p : Bool) → sgi i ≡ soft
-        → result ≡ encode (happened s (Event.Wire level) i (decode p r)) }
+#[tactic(auto, unfolding(meaning::specs::Rule::happened, meaning::specs::Cell::get))]
+fn wired(r: Record, level: bool) -> Record
+    ensures { (s : Shape) → Becomes r result (happened s (Event.Wire level)) }
 {
-    let latch = (edge_of(soft, r) & (level & !has(Bit::Wire, r))) | has(Bit::Latch, r);
-    put(Bit::Latch, latch, put(Bit::Wire, level, r))
+    let rise = level && !r.has(Bit::Wire);
+    let latch = r.is_edge() && rise || r.has(Bit::Latch);
+    r.put(Bit::Wire, level).put(Bit::Latch, latch)
 }
 
 // The record after an event that is done. Activation clears the latch; wire and message level stay.
-pub fn happened(event: Event, soft: bool, r: u8) -> u8
-    ensures { (s : Shape) (i : Interrupt) (p : Bool) → sgi i ≡ soft → result ≡ encode (happened s event i (decode p r)) }
+#[tactic(auto, unfolding(meaning::specs::Rule::happened))]
+pub fn happened(r: Record, event: Event) -> Record
+    ensures { (s : Shape) → Becomes r result (happened s event) }
 {
     match event {
-        Event::Wire(level) => wired(level, soft, r),
-        Event::Activate(_) => put(Bit::Active, true, put(Bit::Latch, false, r)),
-        Event::Deactivate(_) => put(Bit::Active, false, r),
+        Event::Wire(level) => wired(r, level),
+        Event::Activate(_) => r.put(Bit::Latch, false).put(Bit::Active, true),
+        Event::Deactivate(_) => r.put(Bit::Active, false),
     }
 }

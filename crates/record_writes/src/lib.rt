@@ -1,15 +1,13 @@
-// What a register write does to a record. `d` is the digit written for it; `soft`: the interrupt is an SGI.
+// What a register write does to a record. `d` is the digit written for it.
 #![tactic(auto)]
 
-ghost use Rattle.std.specs.Prelude.{◌≡◌, Bool};
+ghost use Rattle.std.specs.Prelude.{◌≡◌};
 ghost use Rattle.types.specs.declared.Shape.{Shape};
-ghost use Rattle.meaning.specs.Interrupt.{Interrupt, sgi};
-ghost use Rattle.meaning.specs.Cell.{decode, encode};
 ghost use Rattle.meaning.specs.Rule.{bit_of, switched, configured, update};
+ghost use Rattle.record.specs.Known.{Becomes};
 ghost use Rattle.record_writes.specs.Touched.{touched};
 
-use record::{guarded, may_touch};
-use record_bits::{has, put};
+use record::{Record, guarded};
 use types::{Bit, Kind, Side, Switch};
 
 fn bit_of(switch: Switch) -> Bit
@@ -23,44 +21,46 @@ fn bit_of(switch: Switch) -> Bit
 }
 
 // A written 1 sets the bit (on), or clears it; a 0 does nothing.
-fn switched(on: bool, bit: Bit, d: u32, r: u8) -> u8
-    ensures { (p : Bool) → result ≡ encode (switched on bit d (decode p r)) }
+#[tactic(auto, unfolding(meaning::specs::Rule::switched))]
+fn switched(r: Record, on: bool, bit: Bit, d: u32) -> Record
+    ensures { result ≡ record r { cell = switched on bit d r.cell } }
 {
-    if d == 1 { put(bit, on, r) } else { r }
+    if d == 1 { r.put(bit, on) } else { r }
 }
 
 // An ICFGR field: those of SGIs and of enabled interrupts ignore writes. A change of trigger also clears latch and message level.
-fn configured(d: u32, soft: bool, r: u8) -> u8
-    ensures { (i : Interrupt) (p : Bool) → sgi i ≡ soft → result ≡ encode (configured d i (decode p r)) }
+#[tactic(auto, unfolding(meaning::specs::Rule::configured, meaning::specs::Rule::fixed_field, meaning::specs::Cell::get))]
+fn configured(r: Record, d: u32) -> Record
+    ensures { Becomes r result (configured d) }
 {
-    if (soft | has(Bit::Enabled, r)) | ((2 <= d) == has(Bit::Edge, r)) {
+    let edge = 2 <= d;
+    if r.is_soft() || r.has(Bit::Enabled) || r.has(Bit::Edge) == edge {
         r
     } else {
-        put(
-            Bit::Edge,
-            2 <= d,
-            put(Bit::Latch, false, put(Bit::MessageLevel, false, r)),
-        )
+        r.put(Bit::MessageLevel, false)
+            .put(Bit::Latch, false)
+            .put(Bit::Edge, edge)
     }
 }
 
-fn updated(kind: Kind, d: u32, soft: bool, r: u8) -> u8
-    ensures { (s : Shape) (side : Side) (i : Interrupt) (p : Bool) → sgi i ≡ soft
-        → result ≡ encode (update s side kind d i (decode p r)) }
+#[tactic(auto, unfolding(meaning::specs::Rule::update))]
+fn updated(r: Record, kind: Kind, d: u32) -> Record
+    ensures { (s : Shape) (side : Side) → Becomes r result (update s side kind d) }
 {
     match kind {
-        Kind::Switched(on, switch) => switched(on, bit_of(switch), d, r),
-        Kind::Guarded(guard) => put(guarded(guard), d == 1, r),
-        Kind::Trigger => configured(d, soft, r),
+        Kind::Switched(on, switch) => switched(r, on, bit_of(switch), d),
+        Kind::Guarded(guard) => r.put(guarded(guard), d == 1),
+        Kind::Trigger => configured(r, d),
     }
 }
 
 // The same behind the gate: a missing interrupt, and one that the side may not touch, is unchanged.
-pub fn touched(side: Side, kind: Kind, implemented: bool, d: u32, soft: bool, r: u8) -> u8
-    ensures { (s : Shape) (i : Interrupt) → sgi i ≡ soft → result ≡ encode (touched s side kind d i (decode implemented r)) }
+#[tactic(auto, unfolding(crate::specs::Touched::touched))]
+pub fn touched(r: Record, side: Side, kind: Kind, d: u32) -> Record
+    ensures { (s : Shape) → Becomes r result (touched s side kind d) }
 {
-    if implemented & may_touch(side, kind, r) {
-        updated(kind, d, soft, r)
+    if r.reached_by(side, kind) {
+        updated(r, kind, d)
     } else {
         r
     }
