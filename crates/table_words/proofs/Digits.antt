@@ -1,8 +1,7 @@
 -- The digits of a word: one bit or two each, where they stand, and how large a shown one is.
 --   by_bits        what holds of one-bit and of two-bit digits holds of a family's
 --   part_small     a part that fits has no more than 32 records,
---   inside         each has its digit inside the word,
---   shift_small    and there is where it stands
+--   inside         each has its digit inside the word
 --   bits_small, modulus, modulus_pos   1 << bits, in a word of 32 bits, is 2 ^ bits
 --   shown_small    a digit that is shown is below that
 use mathlib.Core.Path.{◌≡◌, refl, sym, subst}
@@ -44,11 +43,6 @@ module _ (w : Word) (part : List ℕ) (fit : FitsWord w part) where
         place = omega arith;
         number = omega arith;
       }
-
-pub shift_small : (w : Word) (x : ℕ) → DigitInside w x → bits_of w.family * x < 32
-shift_small w x i =
-    by_bits (λ b. b + b * x ≤ 32 → b * x < 32) (λ h. let u : 1 + 1 * x ≤ 32 = h in omega arith)
-    (λ h. let u : 2 + 2 * x ≤ 32 = h in omega arith) w.family i.digit
 
 pub bits_small : (f : Family) → bits_of f < 32
 bits_small f = by_bits (λ b. b < 32) (omega arith) (omega arith) f

@@ -31,6 +31,13 @@ Named m i = sgi i ≡ ltb m 16
 abbrev pub Numbered : ℕ → ℕ → (ℕ → Interrupt) → Type 0
 Numbered n first at = (x : ℕ) → x < n → Named (first + x) (at x)
 
+-- A fact of whichever interrupts it may be: the one of record x, and those of a part.
+abbrev pub OfDigit : Word → ℕ → (Shape → (ℕ → Interrupt) → Type 0) → Type 0
+OfDigit w x P = (s : Shape) (at : ℕ → Interrupt) → Named (w.first + x) (at x) → P s at
+
+abbrev pub OfPart : Word → List ℕ → (Shape → (ℕ → Interrupt) → Type 0) → Type 0
+OfPart w part P = (s : Shape) (at : ℕ → Interrupt) → Numbered (length part) w.first at → P s at
+
 -- the digit that the word shows of record x
 unfoldable pub shown_at : Shape → (ℕ → Interrupt) → Word → ℕ → ℕ → ℕ
 shown_at s at w x byte = visible s w.side (kind_of w.family) (at x) (decode (bit_at w.implemented x) byte)
