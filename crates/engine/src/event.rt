@@ -8,6 +8,7 @@ ghost use Rattle.meaning.specs.Rule.{event_answer};
 ghost use Rattle.table_spans.specs.Bank.{bank_span};
 ghost use Rattle.engine.specs.Bank.{eventful, Happened};
 
+use record::Record;
 use record_events::{answer_to, happened};
 use table_spans::{Bank, Slot};
 use types::{Answer, Event, Refusal};
@@ -22,9 +23,9 @@ fn happen_at(records: &mut [u8], slot: Slot, soft: bool, event: Event) -> Answer
         ≡ set records.old slot.at (encode (eventful s event i (decode slot.implemented (get_or records.old slot.at 0))))) }
 {
     let Slot { at, implemented } = slot;
-    let r = records[at];
-    let value = answer_to(event, implemented, soft, r)?;
-    records[at] = happened(event, soft, r);
+    let record = Record::new(records[at], implemented, soft);
+    let value = answer_to(record, event)?;
+    records[at] = happened(record, event).byte();
     Ok(value)
 }
 

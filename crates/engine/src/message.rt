@@ -5,6 +5,7 @@ ghost use Rattle.meaning.specs.Layout.{slots};
 ghost use Rattle.table_spans.specs.Bank.{bank_span};
 ghost use Rattle.engine.specs.Bank.{sent_in};
 
+use record::Record;
 use record_messages::deliver;
 use table_spans::{Bank, Slot};
 use types::{Message, Side};
@@ -20,6 +21,7 @@ pub fn send(records: &mut [u8], bank: Bank, side: Side, message: Message, value:
         return;
     }
     if let Some(Slot { at, implemented }) = bank.slot_of(value % 8192) {
-        records[at] = deliver(side, message, implemented, records[at]);
+        let record = Record::new(records[at], implemented, false);
+        records[at] = deliver(record, side, message).byte();
     }
 }

@@ -6,7 +6,5 @@ ghost use Rattle.engine.specs.Bank.{zeroed};
 pub fn clear(records: &mut [u8])
     ensures { records.new ≡ map_from 0 zeroed records.old }
 {
-    for k in 0..records.len() {
-        records[k] = 0;
-    }
+    records.fill(0);
 }

@@ -38,14 +38,8 @@ pub fn read_word<'a>(
         ≡ read_in bank.entry.shape at side window (bank_span bank.entry window.first window.count)
         (records_of bank.entry.frame (lent dist.now redist.now [] [])) }
 {
-    let family = window.family;
     let span = bank.span_of(window.first, window.count);
-    let word = Word {
-        side,
-        family,
-        first: window.first,
-        implemented: span.implemented,
-    };
+    let word = Word::new(side, window.family, window.first, span.implemented);
     gather(part(dist, redist, bank.frame, span), word)
 }
 
@@ -57,13 +51,7 @@ pub fn write_word(records: &mut [u8], bank: Bank, side: Side, window: Window, va
         → records.new
         ≡ written_in bank.entry.shape at side window value (bank_span bank.entry window.first window.count) records.old }
 {
-    let family = window.family;
     let span = bank.span_of(window.first, window.count);
-    let word = Word {
-        side,
-        family,
-        first: window.first,
-        implemented: span.implemented,
-    };
+    let word = Word::new(side, window.family, window.first, span.implemented);
     store(&mut records[span.start..span.end], word, value);
 }
