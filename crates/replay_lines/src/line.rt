@@ -4,13 +4,14 @@ ghost use Rattle.meaning.specs.Rule.{access as by_access};
 ghost use Rattle.meaning.specs.Step.{stepped};
 ghost use Rattle.replay_meaning.specs.Run.{shape_of, request_of, completed, good_line, line_read};
 ghost use Rattle.replay_meaning.specs.Replay.{all_present};
-ghost use Rattle.replay_lines.specs.Reached.{run_of, Reached, BadWritten};
+ghost use Rattle.replay_lines.specs.Reached.{run_of, run_on, Reached, Advanced, BadWritten};
 
 use controller::access;
 use replay_meaning::Progress;
 use replay_state::State;
 use replay_steps::answer::{put_bad, put_step};
 use replay_steps::request::{request_of, shape_of};
+use text::write::Sheet;
 use types::Answer;
 
 // The one call of the controller: a step, from the values of its lines. All interrupts are present.
@@ -32,77 +33,79 @@ fn act(dist: &mut [u8], redist: &mut [u8], values: [u32; 10]) -> Answer
 }
 
 // A whole step: the controller's answer is written.
-fn complete(dist: &mut [u8], redist: &mut [u8], out: &mut [u8], end: usize, p: Progress) -> State
-    requires end_in_bounds { end + 128 ≤ length out.old }
+fn complete(dist: &mut [u8], redist: &mut [u8], sheet: &mut Sheet, p: Progress) -> Progress
+    requires room { sheet.old.end + 128 ≤ length sheet.old.bytes.now }
     requires steps_bound { p.steps < 1000000 }
-    ensures { Reached (completed (run_of p (all_present dist.old redist.old) out.old end))
-        result (all_present dist.new redist.new) out.old end out.new }
+    ensures { Advanced (completed (run_on p (all_present dist.old redist.old) sheet.old))
+        result (all_present dist.new redist.new) sheet.old sheet.new }
 {
     let answer = act(dist, redist, p.values);
     let at = p.counted();
-    let last = put_step(out, end, at.steps, answer);
-    State {
-        at,
-        len: 0,
-        end: last,
-    }
+    put_step(sheet, at.steps, answer);
+    at
 }
 
 // A good line: its value is kept, and a step's last line completes the step.
-fn good(
-    dist: &mut [u8],
-    redist: &mut [u8],
-    out: &mut [u8],
-    end: usize,
-    p: Progress,
-    v: u32,
-) -> State
-    requires end_in_bounds { end + 128 ≤ length out.old }
+fn good(dist: &mut [u8], redist: &mut [u8], sheet: &mut Sheet, p: Progress, v: u32) -> Progress
+    requires room { sheet.old.end + 128 ≤ length sheet.old.bytes.now }
     requires steps_bound { p.steps < 1000000 }
-    ensures { Reached (good_line (run_of p (all_present dist.old redist.old) out.old end) v)
-        result (all_present dist.new redist.new) out.old end out.new }
+    ensures { Advanced (good_line (run_on p (all_present dist.old redist.old) sheet.old) v)
+        result (all_present dist.new redist.new) sheet.old sheet.new }
 {
     let at = p.keeping(v);
     if p.key.rank() == 9 {
-        return complete(dist, redist, out, end, at);
+        return complete(dist, redist, sheet, at);
     }
-    State { at, len: 0, end }
+    at
 }
 
 // A bad line: its number is written, and the replay is over.
-fn bad(out: &mut [u8], end: usize, p: Progress) -> State
-    requires { end + 128 ≤ length out.old }
-    ensures { BadWritten p result out.old end out.new }
+fn bad(sheet: &mut Sheet, p: Progress) -> Progress
+    requires { sheet.old.end + 128 ≤ length sheet.old.bytes.now }
+    ensures { BadWritten p result sheet.old sheet.new }
 {
-    let last = put_bad(out, end, p);
-    State {
-        at: p.stopped(),
-        len: 0,
-        end: last,
+    put_bad(sheet, p);
+    p.stopped()
+}
+
+// How far the replay has come with one more line.
+fn advance(
+    dist: &mut [u8],
+    redist: &mut [u8],
+    sheet: &mut Sheet,
+    p: Progress,
+    line: &[u8],
+) -> Progress
+    requires { sheet.old.end + 128 ≤ length sheet.old.bytes.now }
+    ensures { Advanced (line_read (run_on p (all_present dist.old redist.old) sheet.old) line.now)
+        result (all_present dist.new redist.new) sheet.old sheet.new }
+{
+    if p.over {
+        return p;
+    }
+    if 1000000 <= p.steps {
+        return bad(sheet, p);
+    }
+    match p.key.field(line) {
+        Some(v) => good(dist, redist, sheet, p, v),
+        None => bad(sheet, p),
     }
 }
 
 // What one line, without its end, does.
-pub fn line_read(
-    dist: &mut [u8],
-    redist: &mut [u8],
-    out: &mut [u8],
-    end: usize,
-    p: Progress,
-    line: &[u8],
-) -> State
-    requires { end + 128 ≤ length out.old }
-    ensures { Reached (line_read (run_of p (all_present dist.old redist.old) out.old end) line.now)
-        result (all_present dist.new redist.new) out.old end out.new }
+pub fn line_read(dist: &mut [u8], redist: &mut [u8], out: &mut [u8], s: State, line: &[u8]) -> State
+    requires { s.end + 128 ≤ length out.old }
+    ensures { Reached (line_read (run_of s.at (all_present dist.old redist.old) out.old s.end) line.now)
+        result (all_present dist.new redist.new) out.old s.end out.new }
 {
-    if p.over {
-        return State { at: p, len: 0, end };
-    }
-    if 1000000 <= p.steps {
-        return bad(out, end, p);
-    }
-    match p.key.field(line) {
-        Some(v) => good(dist, redist, out, end, p, v),
-        None => bad(out, end, p),
+    let mut sheet = Sheet {
+        bytes: out,
+        end: s.end,
+    };
+    let at = advance(dist, redist, &mut sheet, s.at, line);
+    State {
+        at,
+        len: 0,
+        end: sheet.end,
     }
 }

@@ -9,6 +9,7 @@ ghost use Rattle.replay_state.specs.Held.{start_state, held_in, stored};
 use replay_keys::Key;
 use replay_meaning::Progress;
 use replay_steps::answer::put_ending;
+use text::write::Sheet;
 
 // A replay between two bytes. It has come as far as `at` says by its whole lines. The bytes of the line that is not whole yet are the
 // first `len` of the buffer that the caller lends for it, of at least 18 bytes. Its output since the last that was handed on is the
@@ -61,5 +62,7 @@ pub fn finish(out: &mut [u8], line: &[u8], s: State) -> Option<usize>
     if out.len() < 32 {
         return None;
     }
-    Some(put_ending(out, 0, s.at, prefix(line, s.len)))
+    let mut sheet = Sheet { bytes: out, end: 0 };
+    put_ending(&mut sheet, s.at, prefix(line, s.len));
+    Some(sheet.end)
 }

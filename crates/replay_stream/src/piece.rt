@@ -25,7 +25,7 @@ fn byte(
         result (all_present dist.new redist.new) line.new out.old s.end out.new }
 {
     if b == b'\n' {
-        return line_read(dist, redist, out, s.end, s.at, prefix(line, s.len));
+        return line_read(dist, redist, out, s, prefix(line, s.len));
     }
     State {
         len: push(line, s.len, b),

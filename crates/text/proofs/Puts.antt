@@ -7,7 +7,8 @@ use native.Mathlib.Nat.{add-zero}
 use native.Mathlib.Omega.{arith}
 use lib.ListN.{length, take, drop, length-append}
 use lib.Seq.{drop-drop}
-use Rattle.text.specs.Sheet.{Put}
+use Rattle.text.specs.declared.write.Sheet.{Sheet}
+use Rattle.text.specs.Sheet.{Put, Writes}
 
 pub put_none : (b : List ℕ) (e : ℕ) → Put b e [] b e
 put_none b e = record { is = sym (append-nil (take e b)); kept = refl; end = sym (add-zero e) }
@@ -25,3 +26,10 @@ put_both {b} {e} {t} {c} {f} {u} {d} {g} p q =
           ∙ (drop-drop (length u) f b ∙ ap (λ (n : ℕ). drop n b) (sym q.end)))));
       end = rw length-append (omega (arith, p.end, q.end));
     }
+
+-- the same of a sheet
+pub writes_none : (s : Sheet) → Writes s [] s
+writes_none s = record { put = put_none _ _; same = refl; long = refl }
+
+pub writes_both : {s : Sheet} {t : List ℕ} {s' : Sheet} {u : List ℕ} {s'' : Sheet} → Writes s t s' → Writes s' u s'' → Writes s (t ++ u) s''
+writes_both p q = record { put = put_both p.put q.put; same = q.same ∙ p.same; long = q.long ∙ p.long }

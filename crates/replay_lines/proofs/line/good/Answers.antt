@@ -1,7 +1,7 @@
--- `good` reaches `good_line`. Two ways out: the line was a step's last (returns-then-rank-eq9), or another (returns).
-use Rattle.std.proofs.Common.{◌∙◌, refl, sym, arith}
+-- `good` comes to `good_line`. Two ways out: the line was a step's last (returns-then-rank-eq9), or another (returns).
+use Rattle.std.proofs.Common.{◌∙◌, sym}
 use Rattle.replay_meaning.specs.Run.{keeping}
-use Rattle.replay_lines.proofs.Reaching.{reached_last, reached_more}
+use Rattle.replay_lines.proofs.Reaching.{advanced_last, advanced_more}
 use Rattle.replay_lines.proofs.line.good.Goals as goal
 
 pub complete-requires-clause-steps_bound : goal.complete-requires-clause-steps_bound
@@ -10,7 +10,7 @@ complete-requires-clause-steps_bound c = rw (c.keeping-at.ensures) c.requires.st
 
 pub returns-then-rank-eq9 : goal.returns-then-rank-eq9
 returns-then-rank-eq9 c =
-    reached_last _ _ _ _ (omega arith) _ _ _ _ c.keeping-at.ensures (sym c.rank.ensures ∙ c.if-rank-eq9.true) c.complete.ensures
+    advanced_last _ _ _ c.keeping-at.ensures (sym c.rank.ensures ∙ c.if-rank-eq9.true) c.complete.ensures
 
 pub returns : goal.returns
-returns c = reached_more _ _ _ _ _ refl (omega arith) c.keeping-at.ensures (λ e. c.if-rank-eq9.false (c.rank.ensures ∙ e))
+returns c = advanced_more _ _ _ _ _ c.keeping-at.ensures (λ e. c.if-rank-eq9.false (c.rank.ensures ∙ e))

@@ -1,5 +1,5 @@
 -- The measure is k: the function calls itself with k - 1.
-use Rattle.text.proofs.write.+put_digits.Given as goal
+use Rattle.text.proofs.write.Sheet.+put_digits.Given as goal
 
 abbrev pub decreases-put_digits : goal.decreases-put_digits
 decreases-put_digits l = l.k
