@@ -28,7 +28,7 @@ impl Key {
         self as usize
     }
 
-    // The key of the next line.
+    // The key of the next line. By match: after value= comes op=, which is not the next variant.
     pub fn next(self) -> Key
         ensures { result ≡ after self }
     {

@@ -68,7 +68,7 @@ fn bad(sheet: &mut Sheet, p: Progress) -> Progress
     p.stopped()
 }
 
-// How far the replay has come with one more line.
+// How far the replay has come with one more line. The two tables are two parameters, as the controller's functions take them.
 fn advance(
     dist: &mut [u8],
     redist: &mut [u8],

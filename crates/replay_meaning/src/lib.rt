@@ -25,7 +25,7 @@ impl Progress {
         self.key.rank() as u64 + 6 * u64::from(self.steps) + 1
     }
 
-    // One step more is answered.
+    // One step more is answered. The bound is asked here, and is no ghost field of Progress: `feed` takes any.
     #[tactic(auto, unfolding(crate::specs::Run::counted))]
     pub fn counted(self) -> Progress
         requires { self.steps < 1000000 }

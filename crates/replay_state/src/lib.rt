@@ -35,7 +35,8 @@ pub fn start() -> State
     State { at, len: 0, end: 0 }
 }
 
-// One byte more of the line, where it is kept. Answers how many are kept.
+// One byte more of the line, where it is kept. Answers how many are kept. The line's buffer and its length are no struct of their own:
+// `feed` and `finish` work with a lent buffer of any size.
 #[tactic(auto, unfolding(crate::specs::Held::stored))]
 pub fn push(line: &mut [u8], len: usize, b: u8) -> usize
     ensures { held_in line.new result ≡ stored (held_in line.old len) b }
