@@ -2,16 +2,19 @@
 -- them), and answers at once (`kept`) or asks the controller (`passed`).
 use mathlib.Core.Path.{◌≡◌}
 use mathlib.Core.Bool.{Bool, true, false}
+use mathlib.Core.List.{List}
+use Prim.Native.Nat.{ℕ}
 use Rattle.std.proofs.Common.{rules}
 use Rattle.std.specs.Prelude.{Ok, Err}
 use Rattle.std.specs.Bool.{then_some}
 use Rattle.types.specs.declared.Shape.{Shape}
 use Rattle.meaning.specs.Answers.{Answer}
-use Rattle.meaning.specs.Layout.{Tables}
+use Rattle.meaning.specs.Layout.{Tables, lent}
 use Rattle.meaning.specs.Rule.{Step}
-use Rattle.meaning.specs.Step.{Outcome, stepped}
 use Rattle.abi_numbers.specs.declared.Shut.{Shut}
 use Rattle.abi_numbers.specs.Code.{code_of, shut_code, shut, asked}
+use Rattle.controller.specs.declared.Controller.{Controller}
+use Rattle.controller.specs.Answered.{tables_of, Answered}
 use Rattle.berduzhika.specs.Returned.{Returned, after_gate}
 
 module _ {A : Type 0} (s : Shape) (x : A) (step : A → Step) (t : Tables) where
@@ -22,11 +25,12 @@ module _ {A : Type 0} (s : Shape) (x : A) (step : A → Step) (t : Tables) where
   kept true false e h = search rules
   kept false sound e h = search rules
 
-  pub passed : (named sound : Bool) (p : Shape × A) (a : Answer) (after : Tables)
-      → asked (then_some sound s) (then_some named x) ≡ Ok p
-      → ◌≡◌ {A = Outcome} (record { answered = a; tables = after }) (stepped p.0 (step p.1) t)
-      → ◌≡◌ {A = Returned} (record { code = code_of a; tables = after }) (after_gate named sound s (step x) t)
+  pub passed : (named sound : Bool) (y : A) {o o' : Controller} {a : Answer} {dist redist : List ℕ}
+      → asked (then_some sound s) (then_some named x) ≡ Ok (o.shape, y) → t ≡ tables_of o → Answered o (step y) a o'
+      → o'.dist.now ≡ dist → o'.redist.now ≡ redist
+      → ◌≡◌ {A = Returned} (record { code = code_of a; tables = lent dist redist t.dist_presence t.redist_presence })
+      (after_gate named sound s (step x) t)
   unfolding after_gate
-  passed true true p a after h k = search rules
-  passed true false p a after h k = search rules
-  passed false sound p a after h k = search rules
+  passed true true y h same k d r = search rules
+  passed true false y h same k d r = search rules
+  passed false sound y h same k d r = search rules

@@ -15,7 +15,7 @@ ghost use Rattle.meaning.specs.Layout.{lent};
 ghost use Rattle.berduzhika.specs.Returned.{access_returns, wire_returns, activate_returns, deactivate_returns, reset_returns};
 
 use abi_numbers::{Shut, access_named, asked, code_of, level_named, shape_named, side_named};
-use controller::{access, event, reset};
+use controller::Controller;
 use types::Event;
 
 // A read or a write of `width` bytes at an offset of a frame. A read ignores `value`.
@@ -48,7 +48,14 @@ pub extern "C" fn berduzhika_access(
         Ok(asked) => asked,
         Err(shut) => return shut.code(),
     };
-    code_of(access(dist, redist, dist_presence, redist_presence, shape, request))
+    let mut controller = Controller {
+        dist,
+        redist,
+        dist_presence,
+        redist_presence,
+        shape,
+    };
+    code_of(controller.access(request))
 }
 
 // A wire event: the interrupt's signal goes to `level`, 0 or 1.
@@ -77,15 +84,14 @@ pub extern "C" fn berduzhika_wire(
         Err(shut) => return shut.code(),
     };
     let wire = Event::Wire(high);
-    code_of(event(
+    let mut controller = Controller {
         dist,
         redist,
         dist_presence,
         redist_presence,
         shape,
-        intid,
-        wire,
-    ))
+    };
+    code_of(controller.event(intid, wire))
 }
 
 // A side takes the interrupt: it becomes active.
@@ -114,15 +120,15 @@ pub extern "C" fn berduzhika_activate(
         Err(shut) => return shut.code(),
     };
     let taken = Event::Activate(side);
-    code_of(event(
+    let mut controller = Controller {
         dist,
         redist,
         dist_presence,
         redist_presence,
         shape,
-        intid, // whole: 65836 is not taken for 300
-        taken,
-    ))
+    };
+    // the whole INTID: 65836 is not taken for 300
+    code_of(controller.event(intid, taken))
 }
 
 // A side is done with the interrupt: it is active no more.
@@ -151,15 +157,15 @@ pub extern "C" fn berduzhika_deactivate(
         Err(shut) => return shut.code(),
     };
     let done = Event::Deactivate(side);
-    code_of(event(
+    let mut controller = Controller {
         dist,
         redist,
         dist_presence,
         redist_presence,
         shape,
-        intid, // whole: 65836 does not let 300 go
-        done,
-    ))
+    };
+    // the whole INTID: 65836 does not let 300 go
+    code_of(controller.event(intid, done))
 }
 
 // All record bytes become 0; presence stays.
@@ -185,5 +191,12 @@ pub extern "C" fn berduzhika_reset(
     let Some(shape) = shape_named(lines, espi, eppi, mbis) else {
         return Shut::IllShaped.code();
     };
-    code_of(reset(dist, redist, dist_presence, redist_presence, shape))
+    let mut controller = Controller {
+        dist,
+        redist,
+        dist_presence,
+        redist_presence,
+        shape,
+    };
+    code_of(controller.reset())
 }

@@ -1,5 +1,6 @@
 // What is built and the four tables that it lends; the requests that are put to them, and how a shape and an answer are written.
 use answers::{status_of, value_of};
+use controller::Controller;
 use std::fmt;
 use types::{Access, Answer, Event, Shape};
 
@@ -32,7 +33,7 @@ impl fmt::Display for Built {
 
 // An answer, as written.
 #[derive(Clone, Copy)]
-pub struct Said(Answer);
+pub struct Said(pub Answer);
 
 impl fmt::Display for Said {
     fn fmt<W: fmt::Write>(&self, f: &mut fmt::Formatter<W>) -> fmt::Result {
@@ -43,27 +44,6 @@ impl fmt::Display for Said {
             value_of(self.0)
         )
     }
-}
-
-// An event on tables of any length.
-pub fn event(
-    dist: &mut [u8],
-    redist: &mut [u8],
-    dist_presence: &[u32],
-    redist_presence: &[u32],
-    shape: Shape,
-    intid: u32,
-    event: Event,
-) -> Said {
-    Said(controller::event(
-        dist,
-        redist,
-        dist_presence,
-        redist_presence,
-        shape,
-        intid,
-        event,
-    ))
 }
 
 #[derive(Drop)]
@@ -94,7 +74,8 @@ impl Machine {
         machine
     }
 
-    pub fn access(&mut self, request: Access) -> Said {
+    // The tables, lent.
+    fn controller(&mut self) -> Controller<'_, '_> {
         let Machine {
             shape,
             dist,
@@ -102,43 +83,24 @@ impl Machine {
             dist_presence,
             redist_presence,
         } = self;
-        Said(controller::access(
+        Controller {
             dist,
             redist,
             dist_presence,
             redist_presence,
-            *shape,
-            request,
-        ))
+            shape: *shape,
+        }
     }
 
-    pub fn event(&mut self, intid: u32, what: Event) -> Said {
-        let Machine {
-            shape,
-            dist,
-            redist,
-            dist_presence,
-            redist_presence,
-        } = self;
-        event(
-            dist,
-            redist,
-            dist_presence,
-            redist_presence,
-            *shape,
-            intid,
-            what,
-        )
+    pub fn access(&mut self, request: Access) -> Said {
+        Said(self.controller().access(request))
+    }
+
+    pub fn event(&mut self, intid: u32, event: Event) -> Said {
+        Said(self.controller().event(intid, event))
     }
 
     pub fn reset(&mut self) -> Said {
-        let Machine {
-            shape,
-            dist,
-            redist,
-            dist_presence,
-            redist_presence,
-        } = self;
-        Said(controller::reset(dist, redist, dist_presence, redist_presence, *shape))
+        Said(self.controller().reset())
     }
 }

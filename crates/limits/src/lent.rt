@@ -1,5 +1,6 @@
 // Several requests on the same tables, and tables of a wrong length. Records are 0 and every interrupt is present.
-use crate::asked::{ALL, BENCH, Built, Machine, event};
+use crate::asked::{ALL, BENCH, Built, Machine, Said};
+use controller::Controller;
 use std::io;
 use types::{Access, Event, Frame, Shape, Side};
 
@@ -50,16 +51,14 @@ fn wire(
     dist_presence: &[u32],
     redist_presence: &[u32],
 ) -> io::Result<()> {
-    let low = Event::Wire(false);
-    let answer = event(
+    let mut controller = Controller {
         dist,
         redist,
         dist_presence,
         redist_presence,
-        BENCH,
-        319,
-        low,
-    );
+        shape: BENCH,
+    };
+    let answer = Said(controller.event(319, Event::Wire(false)));
     println!(rt; "wire{} intid=319{answer}", Built(BENCH))
 }
 

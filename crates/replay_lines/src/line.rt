@@ -6,7 +6,7 @@ ghost use Rattle.replay_meaning.specs.Run.{shape_of, request_of, completed, good
 ghost use Rattle.replay_meaning.specs.Replay.{all_present};
 ghost use Rattle.replay_lines.specs.Reached.{run_of, run_on, Reached, Advanced, BadWritten};
 
-use controller::access;
+use controller::Controller;
 use replay_meaning::Progress;
 use replay_state::State;
 use replay_steps::answer::{put_bad, put_step};
@@ -22,14 +22,14 @@ fn act(dist: &mut [u8], redist: &mut [u8], values: [u32; 10]) -> Answer
 {
     let dist_presence = [u32::MAX; 63];
     let redist_presence = [u32::MAX; 3];
-    access(
+    let mut controller = Controller {
         dist,
         redist,
-        &dist_presence,
-        &redist_presence,
-        shape_of(values),
-        request_of(values),
-    )
+        dist_presence: &dist_presence,
+        redist_presence: &redist_presence,
+        shape: shape_of(values),
+    };
+    controller.access(request_of(values))
 }
 
 // A whole step: the controller's answer is written.
@@ -68,7 +68,7 @@ fn bad(sheet: &mut Sheet, p: Progress) -> Progress
     p.stopped()
 }
 
-// How far the replay has come with one more line. The two tables are two parameters, as the controller's functions take them.
+// How far the replay has come with one more line. The two tables are two parameters: a `Controller` has a shape too, which is a step's.
 fn advance(
     dist: &mut [u8],
     redist: &mut [u8],

@@ -2,6 +2,7 @@
 ghost use Rattle.std.specs.Prelude.{◌+◌, ◌<◌, ◌≤◌};
 
 use crate::lent::Tables;
+use controller::Controller;
 use types::{Access, Answer, Event, Shape};
 
 // What is asked of the controller.
@@ -129,22 +130,17 @@ impl Tables {
         let redist = &mut redist[..redist_bytes];
         let dist_presence = &dist_presence[..dist_words];
         let redist_presence = &redist_presence[..redist_words];
+        let mut controller = Controller {
+            dist,
+            redist,
+            dist_presence,
+            redist_presence,
+            shape,
+        };
         match step {
-            Step::Access(access) => {
-                controller::access(dist, redist, dist_presence, redist_presence, shape, access)
-            }
-            Step::Event(intid, event) => {
-                controller::event(
-                    dist,
-                    redist,
-                    dist_presence,
-                    redist_presence,
-                    shape,
-                    intid,
-                    event,
-                )
-            }
-            Step::Reset => controller::reset(dist, redist, dist_presence, redist_presence, shape),
+            Step::Access(access) => controller.access(access),
+            Step::Event(intid, event) => controller.event(intid, event),
+            Step::Reset => controller.reset(),
         }
     }
 }

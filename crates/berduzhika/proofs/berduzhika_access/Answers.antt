@@ -1,4 +1,5 @@
 -- `berduzhika_access` is `access_returns`. Ways out: a call that is answered at once, and the controller's answer as one number.
+use Rattle.std.proofs.Common.{rules, refl}
 use Rattle.meaning.specs.Rule as step
 use Rattle.berduzhika.proofs.Gate.{kept, passed}
 use Rattle.berduzhika.proofs.berduzhika_access.Goals as goal
@@ -11,4 +12,4 @@ returns-in-Err c =
 pub returns : goal.returns
 returns c =
     let e = rw (c.asked.ensures, c.shape_named.ensures, c.access_named-request.ensures) at c.in-Ok.is in
-    rw c.code_of.ensures (passed _ _ step.access _ _ _ _ _ _ e c.access.ensures)
+    rw c.code_of.ensures (passed _ _ step.access _ _ _ _ e refl c.access.ensures (search rules) (search rules))

@@ -1,4 +1,5 @@
 -- `berduzhika_activate` is `activate_returns`. Ways out: a call that is answered at once, and the controller's answer as one number.
+use Rattle.std.proofs.Common.{rules, refl}
 use Rattle.types.specs.declared.Event.TheVariants.{Activate}
 use Rattle.meaning.specs.Rule as step
 use Rattle.berduzhika.proofs.Gate.{kept, passed}
@@ -12,4 +13,5 @@ returns-in-Err c =
 pub returns : goal.returns
 returns c =
     let e = rw (c.asked.ensures, c.shape_named.ensures, c.side_named.ensures) at c.in-Ok.is in
-    rw c.code_of.ensures (passed _ _ (λ side. step.happens (Activate side) c.args.intid) _ _ _ _ _ _ e c.event.ensures)
+    rw c.code_of.ensures
+    (passed _ _ (λ side. step.happens (Activate side) c.args.intid) _ _ _ _ e refl c.event.ensures (search rules) (search rules))

@@ -1,0 +1,2 @@
+-- What the controller's methods promise.
+pub mod Answered
