@@ -5,7 +5,7 @@ use mathlib.Core.Bool.{Bool, true, false}
 use mathlib.Core.List.{List}
 use Prim.Native.Nat.{ℕ}
 use Rattle.std.proofs.Common.{rules}
-use Rattle.std.specs.Prelude.{Ok, Err}
+use Rattle.std.specs.Prelude.{Option, Result, Ok, Err}
 use Rattle.std.specs.Bool.{then_some}
 use Rattle.types.specs.declared.Shape.{Shape}
 use Rattle.meaning.specs.Answers.{Answer}
@@ -18,19 +18,32 @@ use Rattle.controller.specs.Answered.{tables_of, Answered}
 use Rattle.berduzhika.specs.Returned.{Returned, after_gate}
 
 module _ {A : Type 0} (s : Shape) (x : A) (step : A → Step) (t : Tables) where
-  pub kept : (named sound : Bool) (e : Shut) → asked (then_some sound s) (then_some named x) ≡ Err e
+  kept_so : (named sound : Bool) (e : Shut) → asked (then_some sound s) (then_some named x) ≡ Err e
       → ◌≡◌ {A = Returned} (record { code = shut_code e; tables = t }) (after_gate named sound s (step x) t)
   unfolding after_gate shut
-  kept true true e h = search rules
-  kept true false e h = search rules
-  kept false sound e h = search rules
+  kept_so true true e h = search rules
+  kept_so true false e h = search rules
+  kept_so false sound e h = search rules
 
-  pub passed : (named sound : Bool) (y : A) {o o' : Controller} {a : Answer} {dist redist : List ℕ}
+  passed_so : (named sound : Bool) (y : A) {o o' : Controller} {a : Answer} {dist redist : List ℕ}
       → asked (then_some sound s) (then_some named x) ≡ Ok (o.shape, y) → t ≡ tables_of o → Answered o (step y) a o'
       → o'.dist.now ≡ dist → o'.redist.now ≡ redist
       → ◌≡◌ {A = Returned} (record { code = code_of a; tables = lent dist redist t.dist_presence t.redist_presence })
       (after_gate named sound s (step x) t)
   unfolding after_gate
-  passed true true y h same k d r = search rules
-  passed true false y h same k d r = search rules
-  passed false sound y h same k d r = search rules
+  passed_so true true y h same k d r = search rules
+  passed_so true false y h same k d r = search rules
+  passed_so false sound y h same k d r = search rules
+
+  -- the same of what the calls in the code have answered: m, for the shape f and what is asked, g
+  module _ (named sound : Bool) {m : Result (Shape × A) Shut} {f : Option Shape} {g : Option A} (is : m ≡ asked f g)
+      (shaped : f ≡ then_some sound s) (told : g ≡ then_some named x) where
+    pub kept : (e : Shut) → m ≡ Err e
+        → ◌≡◌ {A = Returned} (record { code = shut_code e; tables = t }) (after_gate named sound s (step x) t)
+    kept e h = kept_so named sound e (rw (is, shaped, told) at h)
+
+    pub passed : (y : A) {o o' : Controller} {a : Answer} {dist redist : List ℕ} → m ≡ Ok (o.shape, y) → t ≡ tables_of o
+        → Answered o (step y) a o' → o'.dist.now ≡ dist → o'.redist.now ≡ redist
+        → ◌≡◌ {A = Returned} (record { code = code_of a; tables = lent dist redist t.dist_presence t.redist_presence })
+        (after_gate named sound s (step x) t)
+    passed y h = passed_so named sound y (rw (is, shaped, told) at h)

@@ -1,7 +1,8 @@
 // The library for C and Rust: each function is one of the controller's, with numbers for its request and one number of 64 bits,
 // status · 2^32 + value, for its answer. include/berduzhika.h declares them and says what each number stands for. There is no
 // condition on any number or length; the promise of each function is one equation, refusals included. The C interface needs each
-// table and each number as a parameter of its own.
+// table and each number as a parameter of its own, a function of its own for each event, and a number as the answer, so that no `?` hands
+// on what is answered at once.
 //
 //   dist             2,012 record bytes of the Distributor      lent for reading and writing
 //   redist           96 record bytes of the Redistributor       lent for reading and writing
@@ -45,7 +46,7 @@ pub extern "C" fn berduzhika_access(
 {
     let request = access_named(frame, side, way, width, offset, value);
     let (shape, request) = match asked(shape_named(lines, espi, eppi, mbis), request) {
-        Ok(asked) => asked,
+        Ok(both) => both,
         Err(shut) => return shut.code(),
     };
     let mut controller = Controller {
@@ -80,7 +81,7 @@ pub extern "C" fn berduzhika_wire(
         (lent dist.old redist.old dist_presence.now redist_presence.now) }
 {
     let (shape, high) = match asked(shape_named(lines, espi, eppi, mbis), level_named(level)) {
-        Ok(asked) => asked,
+        Ok(both) => both,
         Err(shut) => return shut.code(),
     };
     let wire = Event::Wire(high);
@@ -116,7 +117,7 @@ pub extern "C" fn berduzhika_activate(
         (lent dist.old redist.old dist_presence.now redist_presence.now) }
 {
     let (shape, side) = match asked(shape_named(lines, espi, eppi, mbis), side_named(side)) {
-        Ok(asked) => asked,
+        Ok(both) => both,
         Err(shut) => return shut.code(),
     };
     let taken = Event::Activate(side);
@@ -153,7 +154,7 @@ pub extern "C" fn berduzhika_deactivate(
         (lent dist.old redist.old dist_presence.now redist_presence.now) }
 {
     let (shape, side) = match asked(shape_named(lines, espi, eppi, mbis), side_named(side)) {
-        Ok(asked) => asked,
+        Ok(both) => both,
         Err(shut) => return shut.code(),
     };
     let done = Event::Deactivate(side);

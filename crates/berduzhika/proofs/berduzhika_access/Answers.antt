@@ -6,10 +6,11 @@ use Rattle.berduzhika.proofs.berduzhika_access.Goals as goal
 
 pub returns-in-Err : goal.returns-in-Err
 returns-in-Err c =
-    let e = rw (c.asked.ensures, c.shape_named.ensures, c.access_named-request.ensures) at c.in-Err.is in
-    rw c.code.ensures (kept _ _ step.access _ _ _ _ e)
+    rw c.code.ensures
+    (kept _ _ step.access _ _ _ c.asked.ensures c.shape_named.ensures c.access_named-request.ensures _ c.in-Err.is)
 
 pub returns : goal.returns
 returns c =
-    let e = rw (c.asked.ensures, c.shape_named.ensures, c.access_named-request.ensures) at c.in-Ok.is in
-    rw c.code_of.ensures (passed _ _ step.access _ _ _ _ e refl c.access.ensures (search rules) (search rules))
+    rw c.code_of.ensures
+    (passed _ _ step.access _ _ _ c.asked.ensures c.shape_named.ensures c.access_named-request.ensures
+    _ c.in-Ok.is refl c.access.ensures (search rules) (search rules))

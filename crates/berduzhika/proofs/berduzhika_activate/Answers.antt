@@ -7,11 +7,12 @@ use Rattle.berduzhika.proofs.berduzhika_activate.Goals as goal
 
 pub returns-in-Err : goal.returns-in-Err
 returns-in-Err c =
-    let e = rw (c.asked.ensures, c.shape_named.ensures, c.side_named.ensures) at c.in-Err.is in
-    rw c.code.ensures (kept _ _ (λ side. step.happens (Activate side) c.args.intid) _ _ _ _ e)
+    rw c.code.ensures
+    (kept _ _ (λ side. step.happens (Activate side) c.args.intid)
+    _ _ _ c.asked.ensures c.shape_named.ensures c.side_named.ensures _ c.in-Err.is)
 
 pub returns : goal.returns
 returns c =
-    let e = rw (c.asked.ensures, c.shape_named.ensures, c.side_named.ensures) at c.in-Ok.is in
     rw c.code_of.ensures
-    (passed _ _ (λ side. step.happens (Activate side) c.args.intid) _ _ _ _ e refl c.event.ensures (search rules) (search rules))
+    (passed _ _ (λ side. step.happens (Activate side) c.args.intid) _ _ _ c.asked.ensures c.shape_named.ensures c.side_named.ensures
+    _ c.in-Ok.is refl c.event.ensures (search rules) (search rules))
