@@ -121,7 +121,8 @@ impl Record {
         }
     }
 
-    // Whether a side reads and writes the interrupt's digit of that kind.
+    // Whether a side reads and writes the interrupt's digit of that kind. `may_send` of record_messages reads alike and stays apart: the
+    // meaning has two definitions, one of a kind of digit and one of a message register.
     #[tactic(auto, unfolding(meaning::specs::Rule::may_touch))]
     pub fn may_be_touched(self, side: Side, kind: Kind) -> bool
         ensures { (w : Way) (i : Interrupt) → result ≡ may_touch side w kind i self.cell }
@@ -182,6 +183,7 @@ fn secure_kind(kind: Kind) -> bool
     matches!(kind, Kind::Guarded(_))
 }
 
+// No From: both enums are of `types`, where no rule stands.
 pub fn guarded(guard: Guard) -> Bit
     ensures { result ≡ guarded guard }
 {

@@ -1,4 +1,5 @@
-// What the events answer of a record and do to it: wire, activate, deactivate.
+// What the events answer of a record and do to it: wire, activate, deactivate. Functions and no methods: `Record` is a type of `record`,
+// and each kind of change has a crate of its own.
 #![tactic(auto)]
 
 ghost use Rattle.std.specs.Prelude.{◌≡◌, cond};
@@ -21,11 +22,7 @@ fn sees_by(r: Record, event: Event) -> bool
 fn done_if(held: bool, why: Refusal) -> Answer
     ensures { result ≡ cond held (Ok 0) (Err why) }
 {
-    if held {
-        Ok(0)
-    } else {
-        Err(why)
-    }
+    held.then_some(0).ok_or(why)
 }
 
 // A wire is no SGI's; what is activated is enabled, pending and not active; what is deactivated is active.

@@ -1,4 +1,5 @@
-// What the message registers do to the record that a message names: an SPI's or extended SPI's, so no SGI's.
+// What the message registers do to the record that a message names: an SPI's or extended SPI's, so no SGI's. Functions and no methods:
+// `Record` is a type of `record`, and each kind of change has a crate of its own.
 #![tactic(auto)]
 
 ghost use Rattle.std.specs.Prelude.{◌≡◌};
@@ -11,6 +12,7 @@ ghost use Rattle.record_messages.specs.Delivered.{delivered};
 use record::Record;
 use types::{Bit, Message, Side};
 
+// This and `sets` are a `matches!` each and stay functions: each is a definition of the meaning by its own name.
 fn secure_only(g: Message) -> bool
     ensures { result ≡ secure_only g }
 {
@@ -23,6 +25,7 @@ fn sets(g: Message) -> bool
     matches!(g, Message::SetspiNsr | Message::SetspiSr)
 }
 
+// Whether a side may use the message register on the interrupt.
 #[tactic(auto, unfolding(meaning::specs::Rule::may_send))]
 fn may_send(r: Record, side: Side, g: Message) -> bool
     ensures { (i : Interrupt) → result ≡ may_send side g i r.cell }

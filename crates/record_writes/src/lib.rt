@@ -1,4 +1,5 @@
-// What a register write does to a record. `d` is the digit written for it.
+// What a register write does to a record. `d` is the digit written for it. Functions and no methods: `Record` is a type of `record`, and
+// each kind of change has a crate of its own.
 #![tactic(auto)]
 
 ghost use Rattle.std.specs.Prelude.{◌≡◌};
@@ -10,6 +11,7 @@ ghost use Rattle.record_writes.specs.Touched.{touched};
 use record::{Record, guarded};
 use types::{Bit, Kind, Side, Switch};
 
+// No From: both enums are of `types`, where no rule stands.
 fn bit_of(switch: Switch) -> Bit
     ensures { result ≡ bit_of switch }
 {

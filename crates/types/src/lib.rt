@@ -27,7 +27,7 @@ pub struct Shape {
 }
 
 impl Shape {
-    // Judges nothing: a number off its limit is refused by each function that takes the shape.
+    // Takes any numbers: one off its limit is refused by each function that takes the shape.
     pub fn new(lines: u32, espi: u32, eppi: u32, mbis: bool) -> Shape
         ensures { result ≡ record { lines = lines; espi = espi; eppi = eppi; mbis = mbis } }
     {
@@ -59,7 +59,7 @@ pub struct Access {
 }
 
 impl Access {
-    // Judges nothing: a width, an offset or a value that is no good is refused by each function that takes the access.
+    // Takes any numbers: a width other than 2 and 4, and an offset with no register, are refused by each function that takes the access.
     pub fn new(frame: Frame, side: Side, way: Way, width: u32, offset: u32, value: u32) -> Access
         ensures { result ≡ record { frame = frame; side = side; way = way; width = width; offset = offset; value = value } }
     {
@@ -73,14 +73,14 @@ impl Access {
         }
     }
 
-    // A read of `width` bytes; judges nothing.
+    // A read of `width` bytes, of any width and at any offset.
     pub fn read(frame: Frame, side: Side, width: u32, offset: u32) -> Access
         ensures { result ≡ record { frame = frame; side = side; way = Way.Read; width = width; offset = offset; value = 0 } }
     {
         Access::new(frame, side, Way::Read, width, offset, 0)
     }
 
-    // A write of `width` bytes of `value`; judges nothing.
+    // A write of `width` bytes of `value`, of any width and at any offset.
     pub fn write(frame: Frame, side: Side, width: u32, offset: u32, value: u32) -> Access
         ensures { result ≡ record { frame = frame; side = side; way = Way.Write; width = width; offset = offset; value = value } }
     {
