@@ -15,6 +15,7 @@ use lib.Dec.{eqb}
 use lib.Bits.{bit_and, and_le_l, and_shr, and_mod}
 use lib.Count.{under, count_trailing_zeros}
 use lib.Pow.{shr-shr}
+use Rattle.std.proofs.Math.Bool.{and-false, and-true}
 use Rattle.lists.specs.Word.{bit_at}
 use Rattle.lists.proofs.Bools.{beq_true, clash}
 use Rattle.lists.proofs.Every.{every, every_at}
@@ -81,23 +82,15 @@ all_but_lem x j h k =
     row : ℕ → ℕ → Bool
     row x j = beq (bit_at (all_but x) j) (not (eqb j x))
 
-and_false : (a : Bool) → (a && false) ≡ false
-and_false true = refl
-and_false false = refl
-
-and_true : (a : Bool) → (a && true) ≡ a
-and_true true = refl
-and_true false = refl
-
 pub without_same : (v x : ℕ) → x < 32 → bit_at (without v x) x ≡ false
 without_same v x h =
     and_bit v (all_but x) x
-    ∙ (ap (λ (b : Bool). bit_at v x && b) (all_but_lem x x h h ∙ ap not (eq-eqb x x refl)) ∙ and_false (bit_at v x))
+    ∙ (ap (λ (b : Bool). bit_at v x && b) (all_but_lem x x h h ∙ ap not (eq-eqb x x refl)) ∙ and-false (bit_at v x))
 
 pub without_other : (v x j : ℕ) → x < 32 → j < 32 → (j ≡ x → ⊥) → bit_at (without v x) j ≡ bit_at v j
 without_other v x j h k ne =
     and_bit v (all_but x) j
-    ∙ (ap (λ (b : Bool). bit_at v j && b) (all_but_lem x j h k ∙ ap not (ne_eqb j x ne)) ∙ and_true (bit_at v j))
+    ∙ (ap (λ (b : Bool). bit_at v j && b) (all_but_lem x j h k ∙ ap not (ne_eqb j x ne)) ∙ and-true (bit_at v j))
 
 pub without_less : (v x : ℕ) → x < 32 → bit_at v x ≡ true → without v x < v
 without_less v x h one =
