@@ -16,7 +16,7 @@ use std::marker::Model;
 use types::{Family, Kind, Row, Side, Switch};
 
 // Who accesses which family, the INTID of the part's first record, and (bit x) whether record x is implemented. The family's row goes with
-// it: looked up for each record, it made a read half as dear again (1872 instructions in place of 1346).
+// it: looked up for each record, it made a read two fifths dearer (1872 instructions in place of 1346).
 #[derive(Clone, Copy)]
 pub struct Word {
     side: Side,
@@ -95,6 +95,7 @@ impl Digit {
     }
 
     // What the word shows of the record, where it stands in the word.
+    #[tactic(auto, unfolding(crate::specs::Part::shown_at))]
     fn shown(self, byte: u8) -> u32
         ensures { OfDigit self.word self.x (λ s at. result
             ≡ (shown_at s at self.word self.x byte * 2 ^ (bits_of self.word.family * self.x)) % 2 ^ 32) }
@@ -113,6 +114,7 @@ impl Digit {
     }
 
     // The record after a write of `value` to the word.
+    #[tactic(auto, using(crate::proofs::Digits::bits_small, crate::proofs::Digits::modulus, crate::proofs::Digits::modulus_pos))]
     fn stored(self, value: u32, byte: u8) -> u8
         ensures { OfDigit self.word self.x (λ s at. result ≡ stored_at s at self.word value self.x byte) }
     {
@@ -122,7 +124,9 @@ impl Digit {
     }
 }
 
-// What a read of the word shows.
+// What a read of the word shows. Part and word are no struct, here and below: the part is lent for the call alone, shared or to be written,
+// so that two structs would say the same of two kinds of loan, and each contract would still name the part by itself.
+#[tactic(auto, using(crate::proofs::Digits::part_small, crate::proofs::Digits::inside))]
 pub fn gather(part: &[u8], word: Word) -> u32
     requires { FitsWord word part.now }
     ensures { OfPart word part.now (λ s at. result ≡ gathered s at word part.now) }
@@ -137,6 +141,7 @@ pub fn gather(part: &[u8], word: Word) -> u32
 // A set or clear write: from one written 1 to the next, by the count of trailing zeros. Where none remains that count is 32, and no part
 // has more records; a 1 past the part's end, and all above it, act on nothing. No index is counted here: a `while` is the form that
 // document 01 names for it.
+#[tactic(auto, using(crate::proofs::Digits::part_small, crate::proofs::Digits::inside))]
 fn jump(part: &mut [u8], word: Word, on: bool, switch: Switch, value: u32)
     requires fits_word { FitsWord word part.old }
     requires family_value { kind_of word.family ≡ Kind.Switched on switch }
@@ -153,6 +158,7 @@ fn jump(part: &mut [u8], word: Word, on: bool, switch: Switch, value: u32)
 }
 
 // A write where a 0 acts too: every record.
+#[tactic(auto, using(crate::proofs::Digits::part_small, crate::proofs::Digits::inside))]
 fn walk(part: &mut [u8], word: Word, value: u32)
     requires { FitsWord word part.old }
     ensures { OfPart word part.old (λ s at. part.new ≡ stored s at word value part.old) }

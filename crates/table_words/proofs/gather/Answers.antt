@@ -4,14 +4,8 @@ use Rattle.lists.specs.Word.{row}
 use Rattle.lists.proofs.Rows.{row_or}
 use Rattle.meaning.specs.Registers.{bits_of}
 use Rattle.table_words.specs.Part.{shown_at, gathered}
-use Rattle.table_words.proofs.Digits.{part_small, inside, shown_small}
+use Rattle.table_words.proofs.Digits.{inside, shown_small}
 use Rattle.table_words.proofs.gather.Goals as goal
-
-pub overflow_cast-x : goal.overflow_cast-x
-overflow_cast-x c = let h = part_small c.args.word c.args.part.now c.requires in record { fits = omega arith }
-
-pub invariant_of-shown : goal.invariant_of-shown
-invariant_of-shown c = record { inside = inside c.args.word c.args.part.now c.requires c.loop-x.x c.loop-x-test.true }
 
 pub loop-x-init : goal.loop-x-init
 unfolding row

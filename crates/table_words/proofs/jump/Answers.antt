@@ -6,7 +6,7 @@ use Rattle.lists.specs.Word.{bit_at}
 use Rattle.lists.proofs.Ones.{below_count, at_count, without_less}
 use Rattle.lists.proofs.Jumps.{jumped_none, jumped_more, jumped_all}
 use Rattle.table_words.specs.Part.{stored_at, stored}
-use Rattle.table_words.proofs.Digits.{part_small, inside}
+use Rattle.table_words.proofs.Digits.{part_small}
 use Rattle.table_words.proofs.Ones.{quiet_at, one_at}
 use Rattle.table_words.proofs.jump.Goals as goal
 
@@ -23,14 +23,6 @@ loop-x-init c =
           jumped_none (stored_at s at a.word a.value) a.part.now a.value
           (λ k h z. quiet_at s at a.word a.on a.switch c.requires.family_value a.value k _ z);
     }
-
-pub invariant_of-written : goal.invariant_of-written
-invariant_of-written c =
-    let h = c.loop-x.auto.part in
-    record { inside = inside c.args.word c.args.part.now c.requires.fits_word c.loop-x.x (omega arith) }
-
-pub overflow_shl-rest : goal.overflow_shl-rest
-overflow_shl-rest c = let h = part_small c.args.word c.args.part.now c.requires.fits_word in omega arith
 
 pub loop-x-smaller : goal.loop-x-smaller
 loop-x-smaller c =

@@ -2,14 +2,7 @@
 use Rattle.std.proofs.Common.{arith}
 use Rattle.lists.proofs.Loops.{mapped_more, mapped_all}
 use Rattle.table_words.specs.Part.{stored}
-use Rattle.table_words.proofs.Digits.{part_small, inside}
 use Rattle.table_words.proofs.walk.Goals as goal
-
-pub overflow_cast-x : goal.overflow_cast-x
-overflow_cast-x c = let h = part_small c.args.word c.args.part.now c.requires in record { fits = omega arith }
-
-pub invariant_of-stored : goal.invariant_of-stored
-invariant_of-stored c = record { inside = inside c.args.word c.args.part.now c.requires c.loop-x.x c.loop-x-test.true }
 
 pub loop-x-preserved : goal.loop-x-preserved
 loop-x-preserved c s at n =
