@@ -37,7 +37,7 @@ pub fn place_of(request: Access) -> Decoded
     }
     let low = offset % 4;
     let found = listed_at(request.frame, offset - low);
-    // and no `?`, which says the same: document 01 names this form for the place of an access
+    // No `?`, which says the same: document 01 names this form for the place of an access.
     let Ok(place) = found else {
         return found;
     };
@@ -68,6 +68,7 @@ fn count_of(frame: Frame, first: u32, per: u32) -> u32
 }
 
 // Word n of words that are counted from the INTID `from`.
+#[tactic(auto, using(register_families::proofs::Rows::few_digits))]
 fn digits(frame: Frame, family: Family, from: u32, n: u32) -> Target
     requires { (from ≤ 4096) × (n < 64) }
     ensures { result ≡ digits_from frame family from n }

@@ -1,6 +1,8 @@
 -- What the layers above ask of a family's numbers.
 --   all_families   what holds of each of the nine families holds of every family
---   tidy           what the table's rows have in common; `tidy_row`, the same of a row that the code holds
+--   tidy           what the table's rows have in common
+--   few_words      so the Redistributor's words of a family are few,
+--   few_digits     and the digits before a word are
 use mathlib.Core.Path.{◌≡◌, refl}
 use mathlib.Core.List.{List, [], ◌∷◌}
 use Prim.Native.Nat.{ℕ, ◌+◌, ◌*◌, ◌%◌, ◌≤◌, ◌<◌}
@@ -76,5 +78,8 @@ tidy Icfgr =
       first = λ n l. omega arith;
     }
 
-pub tidy_row : {r : Row} (f : Family) → r ≡ row_of f → Tidy r
-tidy_row f e = rw e (tidy f)
+pub few_words : (f : Family) → (row_of f).redist ≤ 64
+few_words f = let t = tidy f in omega arith
+
+pub few_digits : (f : Family) (n : ℕ) → n < 64 → (row_of f).per * n < 2048
+few_digits f = (tidy f).first

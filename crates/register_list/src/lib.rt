@@ -13,7 +13,8 @@ use register_families::{
 use register_map::{Entry, entry_at};
 use types::{Decoded, Family, Frame, Place, Refusal};
 
-// The family whose extended words begin at an offset.
+// The family whose extended words begin at an offset. Its arms are constants, so that no row is looked at; a search of the rows would look
+// up as many as nine for each access, and no list of the families is kept for it.
 #[tactic(auto, unfolding(crate::specs::Entry::extended_from, meaning::specs::Registers::row_of))]
 fn extended_from(start: u32) -> Option<Family>
     ensures { result ≡ extended_from start families }
@@ -50,7 +51,9 @@ fn extended_place(offset: u32) -> Option<Place>
     (n < row.extras).then_some(Place::Extended(Frame::Dist, f, n))
 }
 
-// A word of the Redistributor: its SGIs and PPIs, its extended PPIs, or no word.
+// A word of the Redistributor: its SGIs and PPIs, its extended PPIs, or no word. An early return and no `then_some`: the product has room
+// only below `redist`, and in a closure for `then` its proof did not close.
+#[tactic(auto, using(register_families::proofs::Rows::few_digits, register_families::proofs::Rows::few_words))]
 fn redist_word(f: Family, offset: u32) -> Option<Place>
     ensures { result ≡ redist_word f (word_at (row_of f).base offset) }
 {
