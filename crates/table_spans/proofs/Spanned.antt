@@ -12,7 +12,7 @@ use Prim.Native.Nat.{ℕ, ◌+◌, ◌-◌, ◌/◌, ◌%◌, ◌^◌, ◌≤◌
 use native.Mathlib.Omega.{arith}
 use native.Mathlib.Decide.{dec_lt}
 use lib.Dec.{eqb, ltb}
-use lib.ListN.{length, get_or}
+use lib.ListN.{get_or}
 use lib.Pow.{shr-shr}
 use borrow.Author.Tests.{le-leb, lt-ltb, ltb-true}
 use Rattle.lists.specs.Word.{bit_at}
@@ -21,9 +21,10 @@ use Rattle.types.specs.declared.Frame.{Frame}
 use Rattle.types.specs.declared.Frame.TheVariants.{Dist, Redist}
 use Rattle.types.specs.declared.Shape.{Shape}
 use Rattle.meaning.specs.Interrupt.{Interrupt, intid, interrupt, between}
-use Rattle.meaning.specs.Layout.{Tables, presence_of, presence_words, slots, shape_fits, in_range}
+use Rattle.meaning.specs.Layout.{Tables, presence_of, slots, shape_fits, in_range}
 use Rattle.meaning.specs.Layout.{Home, home_of, interrupt_at, present_at, implemented}
 use Rattle.meaning.proofs.Homes.{between_low, between_high, home_back}
+use Rattle.table_spans.specs.declared.Bank.{Bank}
 use Rattle.table_spans.specs.declared.Range.{Range}
 use Rattle.table_spans.specs.declared.Span.{Span}
 use Rattle.table_spans.specs.declared.Slot.{Slot}
@@ -139,12 +140,13 @@ bounded s ps fit f m n block = by f
     by Redist = let h = spanned s with_words fit Redist m n block in record { ordered = h.ordered; inside = h.inside; short = h.short }
 
 -- at the range of m
-pub bounded_at : (s : Shape) (ps : List ℕ) → shape_fits s ≡ true → (f : Frame) (m n : ℕ) → m % 32 + n ≤ 32 → (r : Range)
-    → r ≡ range_of s f m → between r.low r.high m ≡ true → Bounded f n (span_at ps r (m - r.low) n)
+pub bounded_at : (b : Bank) (m n : ℕ) → m % 32 + n ≤ 32 → (r : Range) → r ≡ range_of b.shape b.frame m → between r.low r.high m ≡ true
+    → Bounded b.frame n (span_at b.presence.now r (m - r.low) n)
 unfolding span_of span_in
-bounded_at s ps fit f m n block r e t =
-    subst (λ (b : Bool). Bounded f n (cond b (span_at ps r (m - r.low) n) nothing)) t
-    (subst (λ (z : Range). Bounded f n (span_in ps z m n)) (sym e) (bounded s ps fit f m n block))
+bounded_at b m n block r e t =
+    let ps = b.presence.now in
+    subst (λ (z : Bool). Bounded b.frame n (cond z (span_at ps r (m - r.low) n) nothing)) t
+    (subst (λ (z : Range). Bounded b.frame n (span_in ps z m n)) (sym e) (bounded b.shape ps b.fits b.frame m n block))
 
 -- its first slot
 pub first_inside : (f : Frame) (n : ℕ) (p : Span) → Bounded f n p → IfSome (first_of p) (λ k. k.at < slots f)
@@ -157,16 +159,17 @@ first_inside f n p h = by (ltb p.start p.end) refl
     by false e = tt
 
 -- what `span_at` asks
-pub inside : (s : Shape) (ps : List ℕ) → shape_fits s ≡ true → (f : Frame) → length ps ≡ presence_words f → (m n : ℕ) → n ≤ 32 → (r : Range)
-    → r ≡ range_of s f m → between r.low r.high m ≡ true → Inside ps r (m - r.low) n
-inside s ps fit f long m n few r e t = all (subst (Ranged s f m) (sym e) (ranged s fit f m)) (slots_few f)
+pub inside : (b : Bank) (m n : ℕ) → n ≤ 32 → (r : Range) → r ≡ range_of b.shape b.frame m → between r.low r.high m ≡ true
+    → Inside b.presence.now r (m - r.low) n
+inside b m n few r e t = all (subst (Ranged b.shape b.frame m) (sym e) (ranged b.shape b.fits b.frame m)) (slots_few b.frame)
   where
     slots_few : (f : Frame) → slots f ≤ 2012
     slots_few Dist = omega arith
     slots_few Redist = omega arith
 
-    all : Ranged s f m r → slots f ≤ 2012 → Inside ps r (m - r.low) n
+    all : Ranged b.shape b.frame m r → slots b.frame ≤ 2012 → Inside b.presence.now r (m - r.low) n
     all known most =
+        let long = b.words_lent in
         let lo = between_low r.low r.high m t in
         let hi = between_high r.low r.high m t in
         let room = known.room in

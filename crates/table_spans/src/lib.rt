@@ -1,4 +1,5 @@
-// Where a bank keeps INTIDs: their slots, and which of them are implemented. A bank is the records and the presence words of one frame.
+// Where a bank keeps INTIDs: their slots, and which of them are implemented. A bank is the records and the presence words of one frame;
+// a `Bank` is all of it but the records, which are lent beside it, to be read or written.
 #![tactic(auto)]
 
 ghost use Rattle.std.specs.Prelude.{◌≡◌, true, ◌+◌, ◌%◌, ◌≤◌, ◌<◌, length, IfSome};
@@ -7,7 +8,7 @@ ghost use Rattle.meaning.specs.Layout.{slots, shape_fits, presence_words};
 
 use types::{Frame, Shape};
 
-// A bank without its records, which are lent beside it: its frame, the shape, and the frame's presence words.
+// What is known of a bank beside its records: its frame, the shape, and the frame's presence words.
 #[derive(Clone, Copy)]
 pub struct Bank<'a> {
     pub frame: Frame,
@@ -20,10 +21,10 @@ pub struct Bank<'a> {
 // INTIDs from `low` up to `high` that a bank keeps one after another, from slot `slot` and presence word `word` on.
 #[derive(Clone, Copy)]
 struct Range {
-    pub low: u32,
-    pub high: u32,
-    pub slot: u32,
-    pub word: u32,
+    low: u32,
+    high: u32,
+    slot: u32,
+    word: u32,
 }
 
 // Slots from `start` up to `end`, and (bit x) whether slot start + x holds an implemented interrupt.
@@ -34,7 +35,7 @@ pub struct Span {
     pub implemented: u32,
 }
 
-// One slot, and whether it holds an implemented interrupt.
+// One slot, and whether it holds an implemented interrupt. A flag and no Option: a record with no interrupt is still asked and answered.
 #[derive(Clone, Copy)]
 pub struct Slot {
     pub at: usize,
@@ -45,7 +46,7 @@ impl Range {
     fn contains(self, m: u32) -> bool
         ensures { result ≡ between self.low self.high m }
     {
-        (self.low <= m) & (m < self.high)
+        (self.low..self.high).contains(&m)
     }
 }
 
@@ -57,14 +58,11 @@ impl Span {
     fn first(self) -> Option<Slot>
         ensures { result ≡ first_of self }
     {
-        if self.start < self.end {
-            let implemented = self.implemented % 2 == 1;
-            return Some(Slot {
-                at: self.start,
-                implemented,
-            });
-        }
-        None
+        let slot = Slot {
+            at: self.start,
+            implemented: self.implemented % 2 == 1,
+        };
+        (self.start < self.end).then_some(slot)
     }
 }
 
@@ -121,7 +119,8 @@ impl Bank<'_> {
         }
     }
 
-    // The slots of `count` INTIDs from `first` on, which lie in one presence word: those that the shape has.
+    // The slots of `count` INTIDs from `first` on, which lie in one presence word: those that the shape has. Where it has none the span is
+    // empty and no None: an empty span reads as 0 and stores nothing, so that an Option would only add a branch to each caller.
     #[tactic(auto, unfolding(crate::specs::Span::span_of, crate::specs::Span::span_in, crate::specs::Span::nothing))]
     pub fn span_of(self, first: u32, count: u32) -> Span
         requires count_bound { count ≤ 32 }

@@ -5,13 +5,10 @@ use Rattle.table_spans.proofs.Bank.span_of.Goals as goal
 
 pub span_at-requires : goal.span_at-requires
 span_at-requires c =
-    let b = c.args.self in
-    inside b.shape b.presence.now b.fits b.frame b.words_lent c.args.first c.args.count c.requires.count_bound
-    c.range_of-range.result c.range_of-range.ensures (sym c.contains.ensures ∙ c.if-contains.true)
+    inside c.args.self c.args.first c.args.count c.requires.count_bound _ c.range_of-range.ensures
+    (sym c.contains.ensures ∙ c.if-contains.true)
 
 pub returns-then-contains-clause-bounds : goal.returns-then-contains-clause-bounds
 returns-then-contains-clause-bounds c block =
-    let b = c.args.self in
     rw c.span_at.ensures
-    (bounded_at b.shape b.presence.now b.fits b.frame c.args.first c.args.count block c.range_of-range.result
-    c.range_of-range.ensures (sym c.contains.ensures ∙ c.if-contains.true))
+    (bounded_at c.args.self c.args.first c.args.count block _ c.range_of-range.ensures (sym c.contains.ensures ∙ c.if-contains.true))
