@@ -12,7 +12,7 @@ use Rattle.meaning.specs.Cell.{Cell, decode, encode}
 use Rattle.meaning.specs.Rule.{event_answer, is_done, happened}
 use Rattle.record_messages.specs.Delivered.{delivered}
 use Rattle.table_words.specs.declared.Word.{Word}
-use Rattle.table_words.specs.Part.{gathered, stored}
+use Rattle.table_words.specs.Part.{Numbered, gathered, stored}
 use Rattle.table_spans.specs.declared.Span.{Span}
 use Rattle.table_spans.specs.Span.{span_of}
 
@@ -23,7 +23,10 @@ part p xs = take (p.end - p.start) (drop p.start xs)
 abbrev pub within : Span → (List ℕ → List ℕ) → List ℕ → List ℕ
 within p g xs = take p.start xs ++ (g (part p xs) ++ drop (p.end - p.start) (drop p.start xs))
 
--- A WORD: its window's span. `at` names the window's interrupts.
+-- A WORD: its window's span. `at` names the window's interrupts; a fact of whichever these may be holds of each such `at`.
+abbrev pub OfWindow : Window → ((ℕ → Interrupt) → Type 0) → Type 0
+OfWindow w P = (at : ℕ → Interrupt) → Numbered w.count w.first at → P at
+
 abbrev pub window_span : Shape → List ℕ → Window → Span
 window_span s ps w = span_of s ps w.frame w.first w.count
 

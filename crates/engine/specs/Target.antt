@@ -1,5 +1,5 @@
 -- A decoded access in the banks: what a read of its target shows, and the records of both frames after a write to it.
-use Rattle.std.specs.Prelude.{◌≡◌, List, [], ℕ, ◌%◌, length, Ok}
+use Rattle.std.specs.Prelude.{◌≡◌, false, List, [], ℕ, ◌%◌, length, Ok}
 use Rattle.types.specs.declared.Frame.{Frame}
 use Rattle.types.specs.declared.Frame.TheVariants.{Dist, Redist}
 use Rattle.types.specs.declared.Side.{Side}
@@ -9,7 +9,7 @@ use Rattle.types.specs.declared.Access.{Access}
 use Rattle.types.specs.declared.Target.{Target}
 use Rattle.types.specs.declared.Target.TheVariants.{Digits, Typer, Message}
 use Rattle.meaning.specs.Answers.{Answer}
-use Rattle.meaning.specs.Interrupt.{Interrupt}
+use Rattle.meaning.specs.Interrupt.{Interrupt, sgi}
 use Rattle.meaning.specs.Layout.{lent, records_of, slots}
 use Rattle.meaning.specs.Registers.{written_value}
 use Rattle.meaning.specs.Step.{typer}
@@ -42,6 +42,13 @@ abbrev pub NumberedAt : Target → (ℕ → Interrupt) → Type 0
 NumberedAt (Digits w) at = Numbered w.count w.first at
 NumberedAt Typer at = Unit
 NumberedAt (Message g) at = Unit
+
+-- A fact of whichever interrupts it may be: those of the target's window, and with them the one that a message names, which is no SGI.
+abbrev pub OfTarget : Target → ((ℕ → Interrupt) → Type 0) → Type 0
+OfTarget x P = (at : ℕ → Interrupt) → NumberedAt x at → P at
+
+abbrev pub OfMessage : Target → ((ℕ → Interrupt) → Interrupt → Type 0) → Type 0
+OfMessage x P = (at : ℕ → Interrupt) (i : Interrupt) → NumberedAt x at → sgi i ≡ false → P at i
 
 unfoldable pub read_at : Shape → (ℕ → Interrupt) → Side → Target → List ℕ → List ℕ → List ℕ → ℕ
 read_at s at side (Digits w) ps d r = read_in s at side w (window_span s ps w) (records_of w.frame (lent d r [] []))

@@ -1,9 +1,8 @@
 // A decoded access: what a read of its target shows, and what a write to it leaves. The lengths of the records (`Room`) stay a clause of
 // each function: both tables are lent beside the bank, since `part` takes both, and a write keeps the other.
-ghost use Rattle.std.specs.Prelude.{◌≡◌, false, ℕ};
-ghost use Rattle.meaning.specs.Interrupt.{Interrupt, sgi};
+ghost use Rattle.std.specs.Prelude.{◌≡◌};
 ghost use Rattle.meaning.specs.Registers.{written_value};
-ghost use Rattle.engine.specs.Target.{Room, NumberedAt, read_at, Written, Served};
+ghost use Rattle.engine.specs.Target.{Room, OfTarget, OfMessage, read_at, Written, Served};
 
 use crate::message::send;
 use crate::typer::typer_of;
@@ -15,8 +14,8 @@ use types::{Access, Answer, Frame, Side, Target, Way};
 #[tactic(auto, unfolding(crate::specs::Target::read_at))]
 fn read<'a>(dist: &'a [u8], redist: &'a [u8], bank: Bank, side: Side, target: Target) -> u32
     requires { Room target bank dist.now redist.now }
-    ensures { (at : ℕ → Interrupt) → NumberedAt target at
-        → result ≡ read_at bank.entry.shape at side target bank.entry.presence.now dist.now redist.now }
+    ensures { OfTarget target (λ at. result
+        ≡ read_at bank.entry.shape at side target bank.entry.presence.now dist.now redist.now) }
 {
     match target {
         Target::Digits(window) => read_word(dist, redist, bank, side, window),
@@ -29,12 +28,11 @@ fn read<'a>(dist: &'a [u8], redist: &'a [u8], bank: Bank, side: Side, target: Ta
 #[tactic(auto, unfolding(crate::specs::Target::written_at))]
 fn write(dist: &mut [u8], redist: &mut [u8], bank: Bank, side: Side, target: Target, value: u32)
     requires { Room target bank dist.old redist.old }
-    ensures { (at : ℕ → Interrupt) (i : Interrupt) → NumberedAt target at → sgi i ≡ false
-        → Written bank.entry.shape side target value bank.entry.presence.now dist.old redist.old dist.new
-        redist.new at i }
+    ensures { OfMessage target (λ at i. Written bank.entry.shape side target value bank.entry.presence.now dist.old redist.old dist.new
+        redist.new at i) }
 {
     match target {
-        // two calls: one variable for either of two borrows gets no proof, and no contract says of a returned one whose it is
+        // Two calls, since one variable for either of two borrows gets no proof, and no contract says of a returned one whose it is.
         Target::Digits(window) => match bank.frame {
             Frame::Dist => write_word(dist, bank, side, window, value),
             Frame::Redist => write_word(redist, bank, side, window, value),
@@ -65,9 +63,8 @@ pub fn serve(
     target: Target,
 ) -> Answer
     requires { Room target bank dist.old redist.old }
-    ensures { (at : ℕ → Interrupt) (i : Interrupt) → NumberedAt target at → sgi i ≡ false
-        → Served bank.entry.shape request target bank.entry.presence.now dist.old redist.old result dist.new
-        redist.new at i }
+    ensures { OfMessage target (λ at i. Served bank.entry.shape request target bank.entry.presence.now dist.old redist.old result dist.new
+        redist.new at i) }
 {
     match request.way {
         Way::Read => Ok(read(dist, redist, bank, request.side, target)),

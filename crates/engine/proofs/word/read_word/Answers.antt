@@ -13,5 +13,5 @@ returns c at n =
     let a = c.args in
     let b = c.span_of-span.ensures.bounds c.requires.fits.block in
     let xs : List ℕ = records_of a.bank.frame (lent a.dist.now a.redist.now [] []) in
-    let gathered = rw (c.new-word.ensures, c.part.ensures) at (c.gather.ensures a.bank.shape at) in
+    let gathered = rw (c.word_of.ensures, c.part.ensures) at (c.gather.ensures a.bank.shape at) in
     gathered (fewer a.window c.span_of-span.result xs at b.short n) ∙ rw c.span_of-span.ensures.span refl

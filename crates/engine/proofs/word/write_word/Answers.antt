@@ -9,5 +9,5 @@ unfolding written_in
 returns c at n =
     let a = c.args in
     let b = c.span_of-span.ensures.bounds c.requires.fits.block in
-    let stored = rw c.new-word.ensures at (c.store.ensures a.bank.shape at) in
+    let stored = rw c.word_of.ensures at (c.store.ensures a.bank.shape at) in
     rw (stored (fewer a.window c.span_of-span.result a.records.now at b.short n), c.span_of-span.ensures.span) refl
