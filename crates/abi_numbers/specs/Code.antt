@@ -21,7 +21,8 @@ abbrev pub value_in : ℕ → ℕ
 value_in n = n % 2 ^ 32
 
 -- Tried before the machine: 100, outside document 01's numbers, where a number of the request names nothing; then document 01's
--- refusal 1, where mbis, a number of the shape, is neither 0 nor 1. 0 lets the request pass.
+-- refusal 1, where mbis, a number of the shape, is neither 0 nor 1. 0 lets the request pass. The theorems speak of `shut`; the code
+-- answers `asked`. An Err of `asked` has the number that `shut` has (`shut_code`), of the same two tests in the same order; Ok is its 0.
 unfoldable pub shut : Bool → Bool → ℕ
 shut false sound = joined 100 0
 shut true false = code_of (Err refusal.Shape)

@@ -1,4 +1,6 @@
-// What the numbers of a request stand for, and the number of an answer.
+// What the numbers of a request stand for, and the number of an answer. Six numbers, or four, are parameters and no struct: C passes them
+// so. `one_or_two`, `zero_or_one`, `names_access`, `side_of`, `shape_of` and `request_of` are called here alone and stay public, since
+// their promises are kept as they were.
 #![tactic(auto, unfolding(crate::specs::Numbers::frame_of, crate::specs::Numbers::side_of, crate::specs::Numbers::way_of))]
 
 ghost use Rattle.std.specs.Prelude.{◌≡◌, ◌&&◌, eqb};
@@ -38,6 +40,7 @@ fn frame_of(n: u32) -> Frame
     if n == 1 { Frame::Dist } else { Frame::Redist }
 }
 
+// 2 is the Secure side, any other number the Non-secure one.
 pub fn side_of(n: u32) -> Side
     ensures { result ≡ side_of n }
 {
@@ -54,6 +57,7 @@ fn way_of(n: u32) -> Way
     if n == 2 { Way::Write } else { Way::Read }
 }
 
+// The shape that four numbers say, none of them judged: mbis is on where its number is 1.
 #[tactic(auto, unfolding(crate::specs::Numbers::shape_of))]
 pub fn shape_of(lines: u32, espi: u32, eppi: u32, mbis: u32) -> Shape
     ensures { result ≡ shape_of lines espi eppi mbis }
@@ -61,6 +65,7 @@ pub fn shape_of(lines: u32, espi: u32, eppi: u32, mbis: u32) -> Shape
     Shape::new(lines, espi, eppi, mbis == 1)
 }
 
+// The access that six numbers say, none of them judged.
 #[tactic(auto, unfolding(crate::specs::Numbers::request_of))]
 pub fn request_of(frame: u32, side: u32, way: u32, width: u32, offset: u32, value: u32) -> Access
     ensures { result ≡ request_of frame side way width offset value }
