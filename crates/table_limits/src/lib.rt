@@ -1,8 +1,8 @@
 // Refusal 1: a table length or a shape number off its limit.
 #![tactic(auto)]
 
-ghost use Rattle.std.specs.Prelude.{◌≡◌, true};
-ghost use Rattle.meaning.specs.Layout.{lent, shape_fits, lengths_fit, well_formed};
+ghost use Rattle.std.specs.Prelude.{◌≡◌, true, length};
+ghost use Rattle.meaning.specs.Layout.{Tables, lent, shape_fits, lengths_fit, well_formed};
 ghost use Rattle.table_limits.specs.Sizes.{Sizes};
 
 use types::Shape;
@@ -15,18 +15,30 @@ fn shape_fits(shape: Shape) -> bool
 }
 
 #[tactic(auto, unfolding(meaning::specs::Layout::lengths_fit))]
-fn lengths_fit(dist: &[u8], redist: &[u8], dist_presence: &[u32], redist_presence: &[u32]) -> bool
-    ensures { result ≡ lengths_fit (lent dist.now redist.now dist_presence.now redist_presence.now) }
+fn lengths_fit(dist: usize, redist: usize, dist_presence: usize, redist_presence: usize) -> bool
+    ensures { (t : Tables) → length t.dist ≡ dist → length t.redist ≡ redist → length t.dist_presence ≡ dist_presence
+        → length t.redist_presence ≡ redist_presence → result ≡ lengths_fit t }
 {
-    dist.len() == 2012
-        && redist.len() == 96
-        && dist_presence.len() == 63
-        && redist_presence.len() == 3
+    dist == 2012 && redist == 96 && dist_presence == 63 && redist_presence == 3
 }
 
-// Whether refusal 1 does not apply.
-#[tactic(auto, unfolding(meaning::specs::Layout::well_formed, meaning::specs::Layout::shape_fits, meaning::specs::Layout::lengths_fit))]
+// Whether refusal 1 does not apply to tables of these lengths. It asks for no table; its promise is kept as it was, and `fits` stands on it.
+#[tactic(auto, unfolding(meaning::specs::Layout::well_formed))]
 pub fn well_formed(
+    shape: Shape,
+    dist: usize,
+    redist: usize,
+    dist_presence: usize,
+    redist_presence: usize,
+) -> bool
+    ensures { (t : Tables) → length t.dist ≡ dist → length t.redist ≡ redist → length t.dist_presence ≡ dist_presence
+        → length t.redist_presence ≡ redist_presence → result ≡ well_formed shape t }
+{
+    shape_fits(shape) && lengths_fit(dist, redist, dist_presence, redist_presence)
+}
+
+// The same of tables that are lent, with what is known of them where it is true.
+pub fn fits(
     shape: Shape,
     dist: &[u8],
     redist: &[u8],
@@ -36,5 +48,11 @@ pub fn well_formed(
     ensures judged { result ≡ well_formed shape (lent dist.now redist.now dist_presence.now redist_presence.now) }
     ensures sizes { result ≡ true → Sizes shape (lent dist.now redist.now dist_presence.now redist_presence.now) }
 {
-    shape_fits(shape) && lengths_fit(dist, redist, dist_presence, redist_presence)
+    well_formed(
+        shape,
+        dist.len(),
+        redist.len(),
+        dist_presence.len(),
+        redist_presence.len(),
+    )
 }
