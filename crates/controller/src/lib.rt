@@ -12,7 +12,7 @@ use engine::dispatch::serve;
 use engine::event::happen;
 use engine::reset::clear;
 use register_decoder::{place_of, target_of};
-use table_limits::well_formed;
+use table_limits::fits;
 use table_spans::Bank;
 use types::{Access, Answer, Event, Frame, Refusal, Shape};
 
@@ -47,7 +47,7 @@ impl<'p> Controller<'_, 'p> {
         ensures judged { result ≡ well_formed self.now.shape (tables_of self.now) }
         ensures sizes { result ≡ true → Sizes self.now.shape (tables_of self.now) }
     {
-        well_formed(
+        fits(
             self.shape,
             self.dist,
             self.redist,
