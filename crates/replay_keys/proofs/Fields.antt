@@ -1,14 +1,13 @@
 -- Laws of the keys: their places are ten, and no good line has more than 17 bytes before its end.
 use mathlib.Core.Path.{◌≡◌, refl}
-use mathlib.Core.Bool.{Bool, true, false, cond}
 use mathlib.Core.List.{List}
 use Prim.Native.Nat.{ℕ, ◌+◌, ◌<◌, ◌≤◌}
 use native.Mathlib.Omega.{arith}
 use lib.ListN.{length, drop, length-drop}
-use Rattle.std.specs.Prelude.{Option, None}
+use Rattle.std.specs.Prelude.{None}
 use Rattle.text.specs.Text.{bytes, begins_with}
 use Rattle.text.proofs.Texts.{different}
-use Rattle.text.proofs.Numbers.{number_long}
+use Rattle.text.proofs.Numbers.{chosen, number_long}
 use Rattle.replay_keys.specs.declared.Key.{Key}
 use Rattle.replay_keys.specs.declared.Key.TheVariants.{Lines, Espi, Eppi, Mbis, Op, Frame, Sec, Width, Offset, Value}
 use Rattle.replay_keys.specs.Keys.{rank, number_at, one_of, field_of}
@@ -25,14 +24,10 @@ rank_small Width = omega arith
 rank_small Offset = omega arith
 rank_small Value = omega arith
 
-same_either : (b : Bool) → cond {A = Option ℕ} b None None ≡ None
-same_either true = refl
-same_either false = refl
-
 long_number : (most : ℕ) (key t : List ℕ) → length key + 11 ≤ length t → number_at most key t ≡ None
 unfolding number_at
 long_number most key t h =
-    rw (number_long (drop (length key) t) (simp length-drop (omega arith))) (same_either (begins_with key t))
+    rw (number_long (drop (length key) t) (simp length-drop (omega arith))) (chosen (begins_with key t) refl)
 
 long_word : (a b t : List ℕ) → length a < length t → length b < length t → one_of a b t ≡ None
 unfolding one_of

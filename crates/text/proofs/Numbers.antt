@@ -36,7 +36,7 @@ module _ (n : ℕ) (t : List ℕ) (i : ℕ) where
   digits_end h e = rw (e, drop-length, le-leb n 4294967295 h)
 
 -- a choice between two equal answers is the second of them, whichever is chosen
-chosen : (b : Bool) {x y : Option ℕ} → x ≡ y → cond b x y ≡ y
+pub chosen : (b : Bool) {x y : Option ℕ} → x ≡ y → cond b x y ≡ y
 chosen true h = h
 chosen false h = refl
 

@@ -9,6 +9,7 @@ use lib.ListN.{length, take, drop, length-append}
 use lib.Seq.{drop-drop}
 use Rattle.text.specs.declared.write.Sheet.{Sheet}
 use Rattle.text.specs.Sheet.{Put, Writes}
+use Rattle.text.proofs.Numbers.{length_digits, digits_one}
 
 pub put_none : (b : List ℕ) (e : ℕ) → Put b e [] b e
 put_none b e = record { is = sym (append-nil (take e b)); kept = refl; end = sym (add-zero e) }
@@ -33,3 +34,6 @@ writes_none s = record { put = put_none _ _; same = refl; long = refl }
 
 pub writes_both : {s : Sheet} {t : List ℕ} {s' : Sheet} {u : List ℕ} {s'' : Sheet} → Writes s t s' → Writes s' u s'' → Writes s (t ++ u) s''
 writes_both p q = record { put = put_both p.put q.put; same = q.same ∙ p.same; long = q.long ∙ p.long }
+
+-- what a writer of digits needs of them
+pub ruleset put_in_decimal = (writes_none, digits_one, length_digits)

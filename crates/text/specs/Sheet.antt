@@ -1,6 +1,10 @@
 -- Writing into a lent buffer whose first bytes, up to an end, are written already.
-use Rattle.std.specs.Prelude.{◌≡◌, List, ◌++◌, ℕ, ◌+◌, length, take, drop}
+use Rattle.std.specs.Prelude.{◌≡◌, List, ◌++◌, ℕ, ◌+◌, ◌≤◌, length, take, drop}
 use Rattle.text.specs.declared.write.Sheet.{Sheet}
+
+-- n bytes more have room on a sheet
+abbrev pub HasRoom : Sheet → ℕ → Type 0
+HasRoom s n = s.end + n ≤ length s.bytes.now
 
 -- text was put at the end e of a buffer: what stands after it is as it was
 pub record Put (buffer : List ℕ) (e : ℕ) (text : List ℕ) (buffer' : List ℕ) (e' : ℕ) : Type 0 where

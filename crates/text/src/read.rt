@@ -3,7 +3,8 @@ ghost use Rattle.std.specs.Prelude.{◌≡◌};
 ghost use Rattle.text.specs.Number.{digits_after, number_in};
 
 // The number that a text of digits writes. None where a byte is no digit, or where the digits read so far write more than the largest
-// u32: each further digit makes the number larger, so that the text is refused there and then.
+// u32: each further digit makes the number larger, so that the text is refused there and then. By hand: `parse::<u32>` reads a `&str`
+// and takes a leading `+`.
 #[tactic(auto, using(crate::proofs::Numbers::reading))]
 fn digits(text: &[u8]) -> Option<u32>
     ensures { result ≡ digits_after 0 text.now }

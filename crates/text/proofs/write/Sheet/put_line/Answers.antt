@@ -1,13 +1,8 @@
 -- `Sheet::put_line` puts `numbered`: the key, the number's digits and the line's end, one after the other. One way out.
-use Rattle.std.proofs.Common.{arith}
 use Rattle.text.specs.Number.{numbered, decimal}
-use Rattle.text.proofs.Numbers.{length_digits}
 use Rattle.text.proofs.Puts.{writes_both}
 use Rattle.text.proofs.write.Sheet.put_line.Goals as goal
 
 pub returns : goal.returns
 unfolding numbered decimal
 returns c = writes_both c.put.ensures (writes_both c.put_digits.ensures c.put_byte.ensures)
-
-pub put_byte-requires : goal.put_byte-requires
-put_byte-requires c = omega (arith, length_digits)
