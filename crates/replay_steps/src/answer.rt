@@ -1,10 +1,10 @@
 // What is written: a step's three lines, and the line that ends a replay.
-ghost use Rattle.std.specs.Prelude.{◌+◌, ◌≤◌, length};
-ghost use Rattle.text.specs.Sheet.{Writes};
+ghost use Rattle.text.specs.Sheet.{HasRoom, Writes};
 ghost use Rattle.replay_meaning.specs.Run.{bad_text, step_text};
 ghost use Rattle.replay_meaning.specs.Replay.{ending};
 
 use answers::{status_of, value_of};
+use replay_keys::Key;
 use replay_meaning::Progress;
 use text::write::Sheet;
 use types::Answer;
@@ -12,7 +12,7 @@ use types::Answer;
 // step=, status=, value=
 #[tactic(auto, using(text::proofs::Numbers::length_numbered))]
 pub fn put_step(sheet: &mut Sheet, n: u32, a: Answer)
-    requires { sheet.old.end + 128 ≤ length sheet.old.bytes.now }
+    requires { HasRoom sheet.old 128 }
     ensures { Writes sheet.old (step_text n a) sheet.new }
 {
     let status = status_of(a);
@@ -25,7 +25,7 @@ pub fn put_step(sheet: &mut Sheet, n: u32, a: Answer)
 // bad=
 #[tactic(auto, unfolding(replay_meaning::specs::Run::bad_text))]
 pub fn put_bad(sheet: &mut Sheet, p: Progress)
-    requires { sheet.old.end + 32 ≤ length sheet.old.bytes.now }
+    requires { HasRoom sheet.old 32 }
     ensures { Writes sheet.old (bad_text p) sheet.new }
 {
     sheet.put_line(b"bad=", p.line_number());
@@ -34,13 +34,13 @@ pub fn put_bad(sheet: &mut Sheet, p: Progress)
 // What ends a replay: nothing once a bad line was read, end= between two steps, and bad= elsewhere.
 #[tactic(auto, using(text::proofs::Puts::writes_none), unfolding(replay_meaning::specs::Replay::ending))]
 pub fn put_ending(sheet: &mut Sheet, p: Progress, rest: &[u8])
-    requires { sheet.old.end + 32 ≤ length sheet.old.bytes.now }
+    requires { HasRoom sheet.old 32 }
     ensures { Writes sheet.old (ending p rest.now) sheet.new }
 {
     if p.over {
         return;
     }
-    if p.key.rank() == 4 && rest.is_empty() {
+    if matches!(p.key, Key::Op) && rest.is_empty() {
         sheet.put_line(b"end=", u64::from(p.steps));
     } else {
         put_bad(sheet, p);

@@ -2,6 +2,7 @@
 ghost use Rattle.std.specs.Prelude.{◌≡◌};
 ghost use Rattle.replay_meaning.specs.Run.{frame_of, side_of, way_of, shape_of, request_of};
 
+use replay_keys::Key;
 use types::{Access, Frame, Shape, Side, Way};
 
 fn frame_of(n: u32) -> Frame
@@ -35,7 +36,12 @@ fn way_of(n: u32) -> Way
 pub fn shape_of(values: [u32; 10]) -> Shape
     ensures { result ≡ shape_of values }
 {
-    Shape::new(values[0], values[1], values[2], values[3] == 1)
+    Shape::new(
+        values[Key::Lines.rank()],
+        values[Key::Espi.rank()],
+        values[Key::Eppi.rank()],
+        values[Key::Mbis.rank()] == 1,
+    )
 }
 
 #[tactic(auto, unfolding(replay_meaning::specs::Run::request_of))]
@@ -43,11 +49,11 @@ pub fn request_of(values: [u32; 10]) -> Access
     ensures { result ≡ request_of values }
 {
     Access::new(
-        frame_of(values[5]),
-        side_of(values[6]),
-        way_of(values[4]),
-        values[7],
-        values[8],
-        values[9],
+        frame_of(values[Key::Frame.rank()]),
+        side_of(values[Key::Sec.rank()]),
+        way_of(values[Key::Op.rank()]),
+        values[Key::Width.rank()],
+        values[Key::Offset.rank()],
+        values[Key::Value.rank()],
     )
 }
