@@ -20,7 +20,7 @@ use Rattle.text.proofs.Puts.{writes_none}
 use Rattle.replay_keys.specs.Keys.{rank, field_of}
 use Rattle.replay_meaning.specs.declared.Progress.{Progress}
 use Rattle.replay_meaning.specs.Run.{Run, shape_of, request_of, bad_text, bad_line, step_text, counted, answered, completed}
-use Rattle.replay_meaning.specs.Run.{keeping, kept, good_line, line_judged, line_read}
+use Rattle.replay_meaning.specs.Run.{keeping, kept, good_line, line_judged, line_read, most_steps}
 use Rattle.replay_meaning.proofs.Cases.{line_over, line_full, line_judged_lem, good_last, good_more}
 use Rattle.replay_lines.specs.Reached.{run_on, Reached, Advanced, BadWritten}
 
@@ -92,10 +92,15 @@ module _ (p : Progress) (t : Tables) (l : List ℕ) {q : Progress} {t' : Tables}
   pub line_is_over : p.over ≡ true → Advanced (run_on p t s) q t' s s' → Advanced (line_read (run_on p t s) l) q t' s s'
   line_is_over h a = rw (line_over (run_on p t s) l h) a
 
-  pub line_is_full : p.over ≡ false → 1000000 ≤ p.steps → Advanced (bad_line (run_on p t s)) q t' s s'
+  pub line_is_full : p.over ≡ false → most_steps ≤ p.steps → Advanced (bad_line (run_on p t s)) q t' s s'
       → Advanced (line_read (run_on p t s) l) q t' s s'
   line_is_full h k a = rw (line_full (run_on p t s) l h k) a
 
-  pub line_is : (n : Option ℕ) → p.over ≡ false → p.steps < 1000000 → n ≡ field_of p.key l
+  pub line_is : (n : Option ℕ) → p.over ≡ false → p.steps < most_steps → n ≡ field_of p.key l
       → Advanced (line_judged (run_on p t s) n) q t' s s' → Advanced (line_read (run_on p t s) l) q t' s s'
   line_is n h k f a = rw (line_judged_lem (run_on p t s) l h k, ← f) a
+
+-- what `good` and `advance` need of these
+pub ruleset keeping_on = (advanced_last, advanced_more)
+
+pub ruleset advancing = (advanced_none, advanced_bad, line_is_over, line_is_full, line_is)

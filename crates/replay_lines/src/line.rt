@@ -1,5 +1,6 @@
-// What one line does: its value is kept, a whole step goes through the controller, or the line is bad.
+// The parts of a line's work. The record tables are two parameters of each, as `feed` takes them.
 ghost use Rattle.std.specs.Prelude.{◌≡◌, ◌+◌, ◌≤◌, ◌<◌, length};
+ghost use Rattle.text.specs.Sheet.{HasRoom};
 ghost use Rattle.meaning.specs.Rule.{access as by_access};
 ghost use Rattle.meaning.specs.Step.{stepped};
 ghost use Rattle.replay_meaning.specs.Run.{shape_of, request_of, completed, good_line, line_read};
@@ -7,7 +8,8 @@ ghost use Rattle.replay_meaning.specs.Replay.{all_present};
 ghost use Rattle.replay_lines.specs.Reached.{run_of, run_on, Reached, Advanced, BadWritten};
 
 use controller::Controller;
-use replay_meaning::Progress;
+use replay_keys::Key;
+use replay_meaning::{MAX_STEPS, Progress};
 use replay_state::State;
 use replay_steps::answer::{put_bad, put_step};
 use replay_steps::request::{request_of, shape_of};
@@ -33,9 +35,10 @@ fn act(dist: &mut [u8], redist: &mut [u8], values: [u32; 10]) -> Answer
 }
 
 // A whole step: the controller's answer is written.
+#[tactic(auto, using(crate::proofs::Reaching::advanced_step))]
 fn complete(dist: &mut [u8], redist: &mut [u8], sheet: &mut Sheet, p: Progress) -> Progress
-    requires room { sheet.old.end + 128 ≤ length sheet.old.bytes.now }
-    requires steps_bound { p.steps < 1000000 }
+    requires room { HasRoom sheet.old 128 }
+    requires steps_bound { p.steps < MAX_STEPS }
     ensures { Advanced (completed (run_on p (all_present dist.old redist.old) sheet.old))
         result (all_present dist.new redist.new) sheet.old sheet.new }
 {
@@ -46,14 +49,15 @@ fn complete(dist: &mut [u8], redist: &mut [u8], sheet: &mut Sheet, p: Progress) 
 }
 
 // A good line: its value is kept, and a step's last line completes the step.
+#[tactic(auto, using(crate::proofs::Reaching::keeping_on), unfolding(replay_meaning::specs::Run::keeping))]
 fn good(dist: &mut [u8], redist: &mut [u8], sheet: &mut Sheet, p: Progress, v: u32) -> Progress
-    requires room { sheet.old.end + 128 ≤ length sheet.old.bytes.now }
-    requires steps_bound { p.steps < 1000000 }
+    requires room { HasRoom sheet.old 128 }
+    requires steps_bound { p.steps < MAX_STEPS }
     ensures { Advanced (good_line (run_on p (all_present dist.old redist.old) sheet.old) v)
         result (all_present dist.new redist.new) sheet.old sheet.new }
 {
     let at = p.keeping(v);
-    if p.key.rank() == 9 {
+    if matches!(p.key, Key::Value) {
         return complete(dist, redist, sheet, at);
     }
     at
@@ -61,14 +65,15 @@ fn good(dist: &mut [u8], redist: &mut [u8], sheet: &mut Sheet, p: Progress, v: u
 
 // A bad line: its number is written, and the replay is over.
 fn bad(sheet: &mut Sheet, p: Progress) -> Progress
-    requires { sheet.old.end + 128 ≤ length sheet.old.bytes.now }
+    requires { HasRoom sheet.old 128 }
     ensures { BadWritten p result sheet.old sheet.new }
 {
     put_bad(sheet, p);
     p.stopped()
 }
 
-// How far the replay has come with one more line. The two tables are two parameters: a `Controller` has a shape too, which is a step's.
+// How far the replay has come with one more line.
+#[tactic(auto, using(crate::proofs::Reaching::advancing))]
 fn advance(
     dist: &mut [u8],
     redist: &mut [u8],
@@ -76,14 +81,14 @@ fn advance(
     p: Progress,
     line: &[u8],
 ) -> Progress
-    requires { sheet.old.end + 128 ≤ length sheet.old.bytes.now }
+    requires { HasRoom sheet.old 128 }
     ensures { Advanced (line_read (run_on p (all_present dist.old redist.old) sheet.old) line.now)
         result (all_present dist.new redist.new) sheet.old sheet.new }
 {
     if p.over {
         return p;
     }
-    if 1000000 <= p.steps {
+    if MAX_STEPS <= p.steps {
         return bad(sheet, p);
     }
     match p.key.field(line) {

@@ -14,7 +14,7 @@ use Rattle.replay_keys.specs.declared.Key.{Key}
 use Rattle.replay_keys.specs.declared.Key.TheVariants.{Lines, Espi, Eppi, Mbis, Op, Frame, Sec, Width, Offset, Value}
 use Rattle.replay_keys.specs.Keys.{field_of}
 use Rattle.replay_meaning.specs.Run.{Run, line_number, stopped, bad_line, counted, answered, completed, keeping, kept}
-use Rattle.replay_meaning.specs.Run.{good_line, line_judged, line_read}
+use Rattle.replay_meaning.specs.Run.{good_line, line_judged, line_read, most_steps}
 use Rattle.replay_meaning.specs.Replay.{start, start_progress, lines_read}
 
 abbrev run : Key → List ℕ → ℕ → Bool → Tables → List ℕ → Run
@@ -55,7 +55,7 @@ line_counts : (r : Run) (t : List ℕ) → (line_read r t).at.over ≡ false →
 unfolding line_read
 line_counts r t h =
     chosen (λ (q : Run). q.at.over ≡ false → line_number q.at ≡ suc (line_number r.at)) r.at.over r _
-    (λ e k. absurd (clash e k)) (λ e. judged_counts r (cond (leb 1000000 r.at.steps) None (field_of r.at.key t))) h
+    (λ e k. absurd (clash e k)) (λ e. judged_counts r (cond (leb most_steps r.at.steps) None (field_of r.at.key t))) h
 
 lines_count : (r : Run) (ts : List (List ℕ)) → (lines_read r ts).at.over ≡ false
     → line_number (lines_read r ts).at ≡ length ts + line_number r.at

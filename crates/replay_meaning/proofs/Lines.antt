@@ -15,7 +15,7 @@ use Rattle.replay_keys.specs.declared.Key.{Key}
 use Rattle.replay_keys.specs.Keys.{field_of}
 use Rattle.replay_keys.proofs.Fields.{long_field}
 use Rattle.replay_meaning.specs.declared.Progress.{Progress}
-use Rattle.replay_meaning.specs.Run.{Run, line_judged, line_read, bad_text}
+use Rattle.replay_meaning.specs.Run.{Run, line_judged, line_read, bad_text, most_steps}
 use Rattle.replay_meaning.specs.Replay.{Cut, longer, cut, start, lines_read, is_first, ending, finished, replayed}
 use Rattle.replay_meaning.specs.Stream.{Live, pushed, byte_read, fed, start_live, closed, in_pieces, joined}
 use Rattle.replay_meaning.proofs.Pieces.{pieces}
@@ -34,7 +34,7 @@ module _ (most : ℕ) (enough : 18 ≤ most) where
   line_short : (r : Run) (t : List ℕ) → line_read r (take most t) ≡ line_read r t
   unfolding line_read
   line_short r t =
-      ap (λ (n : Option ℕ). cond r.at.over r (line_judged r (cond (leb 1000000 r.at.steps) None n))) (field_short r.at.key t)
+      ap (λ (n : Option ℕ). cond r.at.over r (line_judged r (cond (leb most_steps r.at.steps) None n))) (field_short r.at.key t)
 
   pushed_short : (t : List ℕ) (b : ℕ) → pushed most (take most t) b ≡ take most (t ++ (b ∷ []))
   unfolding pushed

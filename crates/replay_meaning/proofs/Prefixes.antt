@@ -11,7 +11,7 @@ use Rattle.meaning.proofs.Choices.{cond_alike}
 use Rattle.std.specs.Prelude.{Option, Some, None}
 use Rattle.replay_keys.specs.Keys.{field_of}
 use Rattle.replay_meaning.specs.Run.{Run, shape_of, request_of, bad_text, bad_line, step_text, answered, completed, kept, is_last}
-use Rattle.replay_meaning.specs.Run.{good_line, line_judged, line_read}
+use Rattle.replay_meaning.specs.Run.{good_line, line_judged, line_read, most_steps}
 use Rattle.replay_meaning.specs.Replay.{ending, finished}
 use Rattle.replay_meaning.specs.Stream.{Live, byte_read, fed, closed, handed_on}
 
@@ -47,7 +47,7 @@ line_behind : (t : List ℕ) (r : Run) (l : List ℕ) → line_read (behind t r)
 unfolding line_read
 line_behind t r l =
     cond_alike (λ (q : Run). q) (behind t) r.at.over _ _ _ _ (λ e. refl)
-    (λ e. judged_behind t r (cond (leb 1000000 r.at.steps) None (field_of r.at.key l)))
+    (λ e. judged_behind t r (cond (leb most_steps r.at.steps) None (field_of r.at.key l)))
 
 -- the same of a replay in the middle of a line
 abbrev later : List ℕ → Live → Live

@@ -97,7 +97,10 @@ abbrev pub line_judged : Run → Option ℕ → Run
 line_judged r (Some v) = good_line r v
 line_judged r None = bad_line r
 
+abbrev pub most_steps : ℕ
+most_steps = 1000000
+
 -- What one line does. Step 1,000,001 has no good line. After a bad line nothing is read.
 unfoldable pub line_read : Run → List ℕ → Run
 line_read r t =
-    cond r.at.over r (line_judged r (cond (leb 1000000 r.at.steps) None (field_of r.at.key t)))
+    cond r.at.over r (line_judged r (cond (leb most_steps r.at.steps) None (field_of r.at.key t)))

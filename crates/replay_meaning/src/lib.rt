@@ -6,6 +6,9 @@ ghost use Rattle.replay_meaning.specs.Run.{line_number, counted, stopped, keepin
 
 use replay_keys::Key;
 
+// The most steps that a replay has.
+pub const MAX_STEPS: u32 = 1000000;
+
 // How far a replay has come: the key of the next line, the value of each key by its rank, the steps answered, and whether a bad line
 // has ended it. The words of op=, frame= and sec= are kept as 0 and 1: `feed` takes any values, 2 among them, and says what they ask.
 #[derive(Clone, Copy)]
@@ -13,7 +16,7 @@ pub struct Progress {
     pub key: Key,
     pub values: [u32; 10],
     pub steps: u32,
-    pub over: bool,
+    pub over: bool, // a field, and no second type for a replay that is over: `feed` takes any Progress
 }
 
 impl Progress {
@@ -28,7 +31,7 @@ impl Progress {
     // One step more is answered. The bound is asked here, and is no ghost field of Progress: `feed` takes any.
     #[tactic(auto, unfolding(crate::specs::Run::counted))]
     pub fn counted(self) -> Progress
-        requires { self.steps < 1000000 }
+        requires { self.steps < MAX_STEPS }
         ensures { result ≡ counted self }
     {
         Progress {

@@ -3,8 +3,8 @@ ghost use Rattle.std.specs.Prelude.{[], ◌∷◌, ◌+◌, length};
 ghost use Rattle.text.specs.Number.{digits_of, numbered};
 ghost use Rattle.text.specs.Sheet.{HasRoom, Writes};
 
-// A lent buffer, and where the text that it holds ends. How much room is left is asked by each function, and is no ghost field: what is
-// put uses it up.
+// A lent buffer, and where the text that it holds ends. How much room remains is asked by each function, and is no ghost field: what
+// is put uses it up.
 #[derive(Drop)]
 pub struct Sheet<'a> {
     pub bytes: &'a mut [u8],
