@@ -1,6 +1,6 @@
 -- The end of a replay, from what `put_ending` writes at a buffer's start.
 --   ended_said, ended_full    the last text was put, or the buffer is too small for it
---   said_text    where the answer is Some n, the buffer's first n bytes are the last text; said_fits: they lie within it
+--   said_text    where the answer is Some n, the buffer's first n bytes are the last text; said_fits, said_taken: they lie within it
 use mathlib.Core.Path.{◌≡◌, sym, ap, ◌∙◌}
 use mathlib.Core.Bool.{Bool, true, false, cond}
 use mathlib.Core.List.{List, [], ◌++◌}
@@ -8,7 +8,7 @@ use Prim.Native.Nat.{ℕ, ◌<◌, ◌≤◌}
 use native.Mathlib.Nat.{zero-add, le_refl}
 use native.Mathlib.Omega.{arith}
 use lib.Dec.{leb}
-use lib.ListN.{length, take, drop, take-append-drop, length-append}
+use lib.ListN.{length, take, drop, take-append-drop, length-append, length-take}
 use lib.Seq.{take-append-le, take_all}
 use borrow.Author.Tests.{le-leb, lt-leb}
 use Rattle.text.specs.Sheet.{Put}
@@ -46,6 +46,9 @@ module _ {n : ℕ} {r : Option ℕ} {t b b' : List ℕ} (is : r ≡ Some n) (w :
 
   pub said_fits : n ≤ length b'
   said_fits = omega (arith, said_long.0, simp length-append at (ap length said_long.1))
+
+  pub said_taken : n ≡ length (take n b')
+  said_taken = let fits = said_fits in simp length-take (omega arith)
 
   pub said_text : take n b' ≡ t
   said_text =

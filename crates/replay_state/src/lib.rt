@@ -13,7 +13,7 @@ use text::write::Sheet;
 
 // A replay between two bytes. It has come as far as `at` says by its whole lines. The bytes of the line that is not whole yet are the
 // first `len` of the buffer that the caller lends for it, of at least 18 bytes. Its output since the last that was handed on is the
-// first `end` bytes of the output's buffer.
+// first `end` bytes of the output's buffer: a field, and no Sheet's, since the promise of `feed` speaks of it.
 #[derive(Clone, Copy)]
 pub struct State {
     pub at: Progress,
@@ -36,7 +36,7 @@ pub fn start() -> State
 }
 
 // One byte more of the line, where it is kept. Answers how many are kept. The line's buffer and its length are no struct of their own:
-// `feed` and `finish` work with a lent buffer of any size.
+// `feed` is lent the buffer to write and `finish` only to read, so a struct would need two forms, and be made anew for each byte.
 #[tactic(auto, unfolding(crate::specs::Held::stored))]
 pub fn push(line: &mut [u8], len: usize, b: u8) -> usize
     ensures { held_in line.new result ≡ stored (held_in line.old len) b }
