@@ -9,7 +9,8 @@ use crate::Fed;
 use replay_lines::line::line_read;
 use replay_state::{State, prefix, push};
 
-// A byte ends the line, which is then read, or it is kept as the line's next.
+// A byte ends the line, which is then read, or it is kept as the line's next. The lent memory and the state are parameters of their own,
+// since `feed` promises its callers so.
 fn byte(
     dist: &mut [u8],
     redist: &mut [u8],
