@@ -1,4 +1,4 @@
-// The parts of a line's work. The record tables are two parameters of each, as `feed` takes them.
+// The parts of a line's work. The record tables are two parameters of each, as `feed` takes them: a `Controller` has a shape too, a step's.
 ghost use Rattle.std.specs.Prelude.{◌≡◌, ◌+◌, ◌≤◌, ◌<◌, length};
 ghost use Rattle.text.specs.Sheet.{HasRoom};
 ghost use Rattle.meaning.specs.Rule.{access as by_access};
