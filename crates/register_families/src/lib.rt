@@ -1,4 +1,4 @@
-// The register families. Each is a type that carries its own numbers, here and nowhere else.
+// The register families. Each is a type that carries its own numbers, here and nowhere else; what eight of them share is `ONE_BIT`.
 #![tactic(auto, unfolding(meaning::specs::Registers::row_of))]
 
 ghost use Rattle.std.specs.Prelude.{◌≡◌};

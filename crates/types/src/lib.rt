@@ -1,4 +1,5 @@
-// The words that every layer shares: who asks, where, and what is answered. No rule stands here.
+// The words that every layer shares: who asks, where, and what is answered. No rule stands here but the paper's numbers: a refusal's, and
+// a record bit's value, which the meaning has again and the crates above are proved against.
 #![tactic(auto)]
 
 ghost use Rattle.std.specs.Prelude.{◌≡◌};
