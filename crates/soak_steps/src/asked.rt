@@ -79,25 +79,19 @@ impl Off {
 fn lent_of(off: Option<Off>, part: Part, right: usize) -> usize
     ensures { result ≤ right + 1 }
 {
-    if off == Some(Off::Short(part)) {
-        return right.saturating_sub(1);
-    }
-    if off == Some(Off::Long(part)) {
-        right.saturating_add(1)
-    } else {
-        right
+    match off {
+        Some(Off::Short(short)) if short == part => right.saturating_sub(1),
+        Some(Off::Long(long)) if long == part => right.saturating_add(1),
+        _ => right,
     }
 }
 
 // A shape number, or what stands for it where it is off its limit.
 fn passed(off: Option<Off>, limit: Limit, right: u32, past: u32) -> u32 {
-    if off == Some(Off::Past(limit)) {
-        return past;
-    }
-    if off == Some(Off::Largest(limit)) {
-        u32::MAX
-    } else {
-        right
+    match off {
+        Some(Off::Past(passed)) if passed == limit => past,
+        Some(Off::Largest(passed)) if passed == limit => u32::MAX,
+        _ => right,
     }
 }
 
@@ -113,10 +107,10 @@ fn shape_off(off: Option<Off>, shape: Shape) -> Shape {
 impl Tables {
     // One step. What `off` names is off its limit for this step alone.
     pub fn ask(&mut self, shape: Shape, off: Option<Off>, step: Step) -> Answer {
-        let dist_bytes = lent_of(off, Part::Dist, 2012);
-        let redist_bytes = lent_of(off, Part::Redist, 96);
-        let dist_words = lent_of(off, Part::DistPresence, 63);
-        let redist_words = lent_of(off, Part::RedistPresence, 3);
+        let dist_bytes = lent_of(off, Part::Dist, self.dist.len() - 1);
+        let redist_bytes = lent_of(off, Part::Redist, self.redist.len() - 1);
+        let dist_words = lent_of(off, Part::DistPresence, self.dist_presence.len() - 1);
+        let redist_words = lent_of(off, Part::RedistPresence, self.redist_presence.len() - 1);
         let shape = shape_off(off, shape);
         let Tables {
             dist,

@@ -34,13 +34,12 @@ fn mix<T: Copy + Into<u64>>(from: u64, numbers: &[T]) -> u64 {
 
 // Adds bytes to a digest: eight at once as a number, the lowest first, and the last ones, fewer than eight, one by one.
 fn mix_bytes(from: u64, bytes: &[u8]) -> u64 {
+    let (eights, last) = bytes.as_chunks::<8>();
     let mut x = from;
-    let mut rest = bytes;
-    while let Some((eight, others)) = rest.split_first_chunk::<8>() {
+    for eight in eights {
         x = next(x ^ u64::from_le_bytes(*eight));
-        rest = others;
     }
-    mix(x, rest)
+    mix(x, last)
 }
 
 impl Tables {

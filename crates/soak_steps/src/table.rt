@@ -143,21 +143,17 @@ impl Table {
         let espi = limit(b, 32, 4);
         let eppi = pick(c, 8, 3);
         let shape = Shape::new(lines, espi, eppi, pick(c, 16, 4) != 0);
-        let h0 = next(c);
-        let h1 = next(h0);
-        let h2 = next(h1);
-        let h3 = next(h2);
+        let mut x = c;
+        let homes = std::array::from_fn(|_| {
+            x = next(x);
+            Home::drawn(shape, x)
+        });
         Table {
             shape,
-            homes: [
-                Home::drawn(shape, h0),
-                Home::drawn(shape, h1),
-                Home::drawn(shape, h2),
-                Home::drawn(shape, h3),
-            ],
+            homes,
             records: Records::drawn(pick(c, 32, 4)),
             presence: Presence::drawn(pick(c, 24, 4)),
-            x: h3,
+            x,
         }
     }
 }
