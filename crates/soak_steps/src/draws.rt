@@ -2,7 +2,7 @@
 ghost use Rattle.std.specs.Prelude.{◌<◌};
 
 use crate::asked::{Limit, Off, Part, Step};
-use crate::edges::{any_offset, any_width, edge, near, offset_of};
+use crate::edges::{any_offset, any_width, edge};
 use crate::random::{next, pick, word};
 use crate::table::{Column, Home, Table};
 use types::{Access, Event, Family, Frame, Message, Side, Way};
@@ -99,7 +99,7 @@ impl Table {
     }
 }
 
-// The four numbers of a step.
+// The four numbers of a step. Named and not an array, so that a draw here reads as the second model's does.
 #[derive(Clone, Copy)]
 struct Numbers {
     a: u64,
@@ -172,6 +172,7 @@ impl Numbers {
             0..=4 => home.intid(),
             5 => {
                 let bit = pick(self.b, 24, 32);
+                // Here and in `wander` each field by itself: `..home` is refused in a struct with invariants.
                 Home {
                     column: home.column,
                     word: home.word,
@@ -180,7 +181,7 @@ impl Numbers {
                 .intid()
             }
             6 => edge(word(self.b >> 24)),
-            _ => near(table, pick(self.b, 32, 8), word(self.e >> 16)),
+            _ => table.near(pick(self.b, 32, 8), word(self.e >> 16)),
         }
     }
 
@@ -217,8 +218,8 @@ impl Numbers {
             Column::Redist => Frame::Redist,
         };
         let width = if pick(self.b, 40, 64) == 0 { 2 } else { 4 };
-        let value = self.written(bit_of(at, family));
-        let step = self.access(frame, width, offset_of(at, family), value);
+        let value = self.written(at.mask(family));
+        let step = self.access(frame, width, at.offset(family), value);
         (Kind::Word(at.column, family), step)
     }
 
@@ -247,13 +248,5 @@ impl Numbers {
             3 => any & !bit,
             _ => any | bit,
         }
-    }
-}
-
-// A home's bit in its word of a family.
-fn bit_of(at: Home, family: Family) -> u32 {
-    match family {
-        Family::Icfgr => 1 << (2 * (at.bit % 16) + 1),
-        _ => 1 << at.bit,
     }
 }

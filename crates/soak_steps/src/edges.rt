@@ -21,18 +21,20 @@ pub fn edge(k: u32) -> u32 {
     INTIDS[(k % 24) as usize]
 }
 
-// An INTID at a limit of the shape or one past it, or any.
-pub fn near(table: Table, which: u32, any: u32) -> u32 {
-    let shape = table.shape;
-    match which {
-        0 => 32 * shape.lines + 31,
-        1 => 32 * shape.lines + 32,
-        2 => 1055 + 32 * shape.eppi,
-        3 => 1056 + 32 * shape.eppi,
-        4 => 4095 + 32 * shape.espi,
-        5 => 4096 + 32 * shape.espi,
-        6 => any,
-        _ => any % 5200,
+impl Table {
+    // An INTID at a limit of the shape or one past it, or any.
+    pub(crate) fn near(self, which: u32, any: u32) -> u32 {
+        let shape = self.shape;
+        match which {
+            0 => 32 * shape.lines + 31,
+            1 => 32 * shape.lines + 32,
+            2 => 1055 + 32 * shape.eppi,
+            3 => 1056 + 32 * shape.eppi,
+            4 => 4095 + 32 * shape.espi,
+            5 => 4096 + 32 * shape.espi,
+            6 => any,
+            _ => any % 5200,
+        }
     }
 }
 
@@ -56,7 +58,7 @@ pub fn any_width(which: u32, any: u32) -> u32 {
     }
 }
 
-// The offset of a family's first word, as document 01's table has it.
+// The offset of a family's first word, from document 01's table and not from register_families, so that a wrong row is not followed.
 fn base(family: Family) -> u32
     ensures { result ≤ 0x3400 }
 {
@@ -90,14 +92,24 @@ fn extended_base(family: Family) -> u32
     }
 }
 
-// The offset of a home's word in a family; ICFGR has two words for each.
-pub fn offset_of(at: Home, family: Family) -> u32 {
-    let first = match at.column {
-        Column::Extended => extended_base(family),
-        Column::Dist | Column::Redist => base(family),
-    };
-    match family {
-        Family::Icfgr => first + 4 * (2 * at.word + at.bit / 16),
-        _ => first + 4 * at.word,
+impl Home {
+    // The offset of a home's word in a family; ICFGR has two words for each.
+    pub(crate) fn offset(self, family: Family) -> u32 {
+        let first = match self.column {
+            Column::Extended => extended_base(family),
+            Column::Dist | Column::Redist => base(family),
+        };
+        match family {
+            Family::Icfgr => first + 4 * (2 * self.word + self.bit / 16),
+            _ => first + 4 * self.word,
+        }
+    }
+
+    // A home's bit in its word of a family.
+    pub(crate) fn mask(self, family: Family) -> u32 {
+        match family {
+            Family::Icfgr => 1 << (2 * (self.bit % 16) + 1),
+            _ => 1 << self.bit,
+        }
     }
 }

@@ -1,5 +1,5 @@
 // The four tables that are lent: filled for a start, and digested. Each has one element more than it lends, for the steps that are lent
-// one too many; it is digested too.
+// one too many; it is digested too. Not a type of `limits`, whose tables have the right lengths.
 use crate::random::next;
 use crate::table::Table;
 

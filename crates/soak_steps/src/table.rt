@@ -74,6 +74,7 @@ pub(crate) enum Records {
 }
 
 impl Records {
+    // Not `From`: `n` is one of four draws and no number of a filling, of which there are three. So with `Presence`.
     fn drawn(n: u32) -> Records {
         match n {
             0 => Records::Zero,
