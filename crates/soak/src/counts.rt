@@ -26,9 +26,8 @@ impl Counts {
     }
 
     pub fn add(&mut self, drawn: Drawn, answer: Answer) {
-        let status = status_of(answer);
-        add_one(&mut self.status, status);
-        if status != 0 {
+        add_one(&mut self.status, status_of(answer));
+        if answer.is_err() {
             return;
         }
         if let Some(done) = self.done.get_mut(drawn.kind.class() as usize) {

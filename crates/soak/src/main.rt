@@ -42,6 +42,7 @@ fn one_table(rt: &impl Print, counts: &mut Counts, plan: Plan, number: u64) -> i
             println!(rt; "{shown}")?;
         }
     }
+    // The shape by hand: printing is no word of `types`, and each program has its own text (docs/SOAK.md has this one).
     print!(rt;
         "table={number} lines={} espi={} eppi={}",
         shape.lines, shape.espi, shape.eppi

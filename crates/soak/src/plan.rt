@@ -13,12 +13,13 @@ pub struct Plan {
     pub show: bool,
 }
 
-// A number with one digit more; numbers past 10^17 take no more digits.
+// A number with one digit more; numbers past 10^17 take no more digits, so that none leaves the u64. Wrapping, since that only digits come
+// is a fact of the split below, which the check does not carry here.
 fn more(number: u64, digit: u8) -> u64 {
     if number > 100_000_000_000_000_000 {
         return number;
     }
-    number * 10 + u64::from(digit & 15)
+    number * 10 + u64::from(digit.wrapping_sub(b'0'))
 }
 
 fn number_of(digits: &[u8]) -> u64 {
