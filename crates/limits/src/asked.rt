@@ -16,7 +16,7 @@ pub const BENCH: Shape = Shape {
     mbis: true,
 };
 
-// A shape, as written.
+// A shape, as written: here and not in `types`, since printing is no word of the meaning and `soak` has its own text.
 #[derive(Clone, Copy)]
 pub struct Built(pub Shape);
 

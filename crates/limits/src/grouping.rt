@@ -1,7 +1,7 @@
 // Document 02, CR 2: an interrupt is Non-secure exactly when group is 1, whatever the modifier. Each case is a record of SPI 300, which
 // is bit 12 of word 9, and what is asked then; all other records are 0. 192 is both bits, 64 group and 128 modifier alone.
 use crate::asked::{Machine, Said};
-use std::io;
+use std::{fmt, io};
 use types::{Access, Event, Frame, Side};
 
 // A register word of the Distributor.
@@ -36,10 +36,16 @@ const IGRPMODR9: Register = Register {
     offset: 0xD24,
 };
 
-fn name_of(side: Side) -> &'static str {
-    match side {
-        Side::Secure => "Secure",
-        Side::NonSecure => "Non-secure",
+// A side, as written.
+#[derive(Clone, Copy)]
+struct Named(Side);
+
+impl fmt::Display for Named {
+    fn fmt<W: fmt::Write>(&self, f: &mut fmt::Formatter<W>) -> fmt::Result {
+        f.write_str(match self.0 {
+            Side::Secure => "Secure",
+            Side::NonSecure => "Non-secure",
+        })
     }
 }
 
@@ -57,7 +63,7 @@ impl Register {
 fn shown(rt: &impl Print, record: u8, side: Side, register: Register) -> io::Result<()> {
     let name = register.name;
     let answer = register.read(&mut Machine::with_record(record), side);
-    println!(rt; "record={record} {} reads {name}{answer}", name_of(side))
+    println!(rt; "record={record} {} reads {name}{answer}", Named(side))
 }
 
 // What the Non-secure side then reads.
@@ -76,7 +82,8 @@ fn set(rt: &impl Print, record: u8, register: Register) -> io::Result<()> {
     then(rt, &mut machine, register)
 }
 
-// The Secure side writes one of the two bits; 300 is enabled. What the Non-secure side then reads.
+// The Secure side writes one of the two bits; 300 is enabled. What the Non-secure side then reads. Not one function with `set`: what
+// is printed differs, and so does what is read.
 fn regroup(rt: &impl Print, record: u8, register: Register, value: u32) -> io::Result<()> {
     let name = register.name;
     let mut machine = Machine::with_record(record);
@@ -85,7 +92,8 @@ fn regroup(rt: &impl Print, record: u8, register: Register, value: u32) -> io::R
     then(rt, &mut machine, ISENABLER9)
 }
 
-// The Non-secure side activates or deactivates 300, and what it then reads.
+// The Non-secure side activates or deactivates 300, and what it then reads. `does` says it: a text of an Event would need
+// words for wires too.
 fn happened(rt: &impl Print, record: u8, does: &str, what: Event) -> io::Result<()> {
     let mut machine = Machine::with_record(record);
     let answer = machine.event(300, what);
