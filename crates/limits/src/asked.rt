@@ -74,7 +74,7 @@ impl Machine {
         machine
     }
 
-    // The tables, lent.
+    // The tables, lent. Taken apart first: the check does not follow `&mut self.dist` and the others in the literal.
     fn controller(&mut self) -> Controller<'_, '_> {
         let Machine {
             shape,
