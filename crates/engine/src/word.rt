@@ -43,7 +43,10 @@ pub fn read_word<'a>(
         (records_of bank.entry.frame (lent dist.now redist.now [] []))) }
 {
     let span = bank.span_of(window.first, window.count);
-    gather(part(dist, redist, bank.frame, span), word_of(side, window, span))
+    gather(
+        part(dist, redist, bank.frame, span),
+        word_of(side, window, span),
+    )
 }
 
 // What a write to a register word leaves in its bank.
@@ -54,5 +57,9 @@ pub fn write_word(records: &mut [u8], bank: Bank, side: Side, window: Window, va
         ≡ written_in bank.entry.shape at side window value (bank_span bank.entry window.first window.count) records.old) }
 {
     let span = bank.span_of(window.first, window.count);
-    store(&mut records[span.start..span.end], word_of(side, window, span), value);
+    store(
+        &mut records[span.start..span.end],
+        word_of(side, window, span),
+        value,
+    );
 }

@@ -22,7 +22,7 @@ fn lengths_fit(dist: usize, redist: usize, dist_presence: usize, redist_presence
     dist == 2012 && redist == 96 && dist_presence == 63 && redist_presence == 3
 }
 
-// Whether refusal 1 does not apply to tables of these lengths. It asks for no table; its promise is kept as it was, and `fits` stands on it.
+// Whether refusal 1 does not apply to tables of these lengths. It asks for no table. Its promise is kept as it was; `fits` stands on it.
 #[tactic(auto, unfolding(meaning::specs::Layout::well_formed))]
 pub fn well_formed(
     shape: Shape,
