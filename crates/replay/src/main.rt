@@ -3,9 +3,11 @@
 // call moved.
 // A failed read or write ends it at once, with a word on standard error and without bad= or end=, so that an output that was cut
 // short is not taken for a whole one. It is also what `main` answers, so the exit status is 1.
+// The tables, the line and the state are parameters one by one: as fields of one struct, with these functions as its methods, they took
+// a quarter more instructions (a million steps 0.49 s in place of 0.33).
 #![tactic(auto)]
 
-ghost use Rattle.std.specs.Prelude.{◌≤◌, length};
+ghost use Rattle.std.specs.Prelude.{◌≡◌, ◌≤◌, length};
 
 use replay_state::{State, finish, start};
 use replay_stream::piece::feed;
@@ -13,6 +15,13 @@ use replay_tables::records;
 use std::io;
 use std::io::Read;
 use std::ops::ControlFlow;
+
+// The bytes of one read, or of one write. A function of its own: a local of this size costs the proof of a function that lends parts of it.
+fn buffer() -> [u8; 65536]
+    ensures { 65536 ≡ length result }
+{
+    [0; 65536]
+}
 
 // Takes all of a piece, and writes its output whenever the buffer has no more room for it.
 fn take(
@@ -46,13 +55,13 @@ fn turn(
     line: &mut [u8],
     s: State,
 ) -> io::Result<ControlFlow<State, State>> {
-    let mut buffer = records::<65536>();
-    let n = input.read(&mut buffer)?;
+    let mut read = buffer();
+    let n = input.read(&mut read)?;
     if n == 0 {
         return Ok(ControlFlow::Break(s));
     }
-    let mut out = records::<65536>();
-    let state = take(rt, dist, redist, line, &mut out, s, &buffer[..n])?;
+    let mut out = buffer();
+    let state = take(rt, dist, redist, line, &mut out, s, &read[..n])?;
     if state.at.over {
         Ok(ControlFlow::Break(state))
     } else {
