@@ -98,6 +98,7 @@ impl<'p> Controller<'_, 'p> {
         }
         let frame = frame_of(intid);
         let bank = self.bank_of(frame);
+        // Two calls: one variable for either of two borrows gets no proof.
         match frame {
             Frame::Dist => happen(self.dist, bank, intid, event),
             Frame::Redist => happen(self.redist, bank, intid, event),

@@ -37,7 +37,8 @@ pub fn well_formed(
     shape_fits(shape) && lengths_fit(dist, redist, dist_presence, redist_presence)
 }
 
-// The same of tables that are lent, with what is known of them where it is true.
+// The same of tables that are lent, with what is known of them where it is true. One by one: the struct that holds them is the
+// controller's, above.
 pub fn fits(
     shape: Shape,
     dist: &[u8],
