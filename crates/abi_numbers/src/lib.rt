@@ -33,7 +33,8 @@ pub fn names_access(frame: u32, side: u32, way: u32) -> bool
 }
 
 // What a number stands for, whether or not it names anything: above all, one that is not 2 is never the Secure side. No TryFrom: neither
-// the number nor the enums are types of this crate.
+// the number nor the enums are types of this crate. Three functions alike, since each answers another enum: one generic function would
+// need an impl for each, the same lines again.
 fn frame_of(n: u32) -> Frame
     ensures { result ≡ frame_of n }
 {

@@ -42,7 +42,7 @@ impl<'p> Controller<'_, 'p> {
     ghost use Rattle.table_limits.specs.Sizes.{Sizes};
     ghost use Rattle.controller.specs.Answered.{tables_of, Answered};
 
-    // Whether refusal 1 does not apply.
+    // Whether refusal 1 does not apply. A bool and no Result, as the meaning's `well_formed` is one: `sizes` is of its true.
     fn fits(&self) -> bool
         ensures judged { result ≡ well_formed self.now.shape (tables_of self.now) }
         ensures sizes { result ≡ true → Sizes self.now.shape (tables_of self.now) }

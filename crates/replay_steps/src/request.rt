@@ -1,4 +1,5 @@
 // The values of a step's lines, put together. Its words are numbers there: `feed` takes any Progress, and request_of says what they ask.
+// Three functions alike, since each answers another enum: one generic function would need an impl for each.
 ghost use Rattle.std.specs.Prelude.{◌≡◌};
 ghost use Rattle.replay_meaning.specs.Run.{frame_of, side_of, way_of, shape_of, request_of};
 

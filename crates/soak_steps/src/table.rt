@@ -103,6 +103,7 @@ pub(crate) enum Presence {
 }
 
 impl Presence {
+    // As `Records::drawn`, but of another enum.
     fn drawn(n: u32) -> Presence {
         match n {
             0 => Presence::All,
