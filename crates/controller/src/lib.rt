@@ -88,8 +88,10 @@ impl<'p> Controller<'_, 'p> {
         serve(self.dist, self.redist, bank, request, target)
     }
 
-    // An event on an INTID: a wire goes to a level, a side activates or deactivates.
+    // An event on an INTID: a wire goes to a level, a side activates or deactivates. Always inlined, as is `happen`: as calls they handed
+    // struct, bank and answer on by memory, and an exported event took 285 instructions in place of 157.
     #[tactic(auto, using(crate::proofs::Outcomes::ill))]
+    #[inline(always)]
     pub fn event(&mut self, intid: u32, event: Event) -> Answer
         ensures { Answered self.old (step.happens event intid) result self.new }
     {

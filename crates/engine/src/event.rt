@@ -29,7 +29,8 @@ fn happen_at(records: &mut [u8], slot: Slot, soft: bool, event: Event) -> Answer
     Ok(value)
 }
 
-// The event on the INTID m of the bank; refusal 7 where it has no such interrupt.
+// The event on the INTID m of the bank; refusal 7 where it has no such interrupt. Inlined always (see `Controller::event`).
+#[inline(always)]
 pub fn happen(records: &mut [u8], bank: Bank, m: u32, event: Event) -> Answer
     requires { length records.old ≡ slots bank.frame }
     ensures { (i : Interrupt) → sgi i ≡ ltb m 16

@@ -157,8 +157,10 @@ fn jump(part: &mut [u8], word: Word, on: bool, switch: Switch, value: u32)
     }
 }
 
-// A write where a 0 acts too: every record.
+// A write where a 0 acts too: every record. Inlined always, so that each of `store`'s callers has loops of its own: left to the compiler,
+// a Non-secure write to IGRPMODR took 594 instructions in place of 342.
 #[tactic(auto, using(crate::proofs::Digits::part_small, crate::proofs::Digits::inside))]
+#[inline(always)]
 fn walk(part: &mut [u8], word: Word, value: u32)
     requires { FitsWord word part.old }
     ensures { OfPart word part.old (λ s at. part.new ≡ stored s at word value part.old) }
