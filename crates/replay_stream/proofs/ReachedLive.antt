@@ -1,5 +1,6 @@
 -- From lines to bytes, and from bytes to a piece.
 --   after_line, after_other    what a byte promises: at a line's end, by what the line reached; and at any other byte
+--   other_end    a byte that ends no line leaves what was written
 --   Feeding    what holds in the middle of a piece; feeding_more, feeding_done, feeding_full: a byte more, and the two ways to stop
 --   taken_goes    with room, some of a piece is taken
 use mathlib.Core.Path.{◌≡◌, refl, sym, ap, ◌∙◌}
@@ -67,6 +68,16 @@ module _ (s : State) (t : Tables) (line b : List ℕ) where
         held = held_byte _ _ c h is;
       }
 
+  -- a byte that ends no line leaves what was written
+  pub other_end : (c : ℕ) {s' : State} {t' : Tables} {line' b' : List ℕ} → (c ≡ 10 → ⊥) → s.end ≤ length b
+      → ReachedLive (byte_read (live_of s t line b) c) s' t' line' b s.end b' → s'.end ≡ s.end
+  unfolding byte_read
+  other_end c {s'} {b' = b'} h k r =
+      let said : take s'.end b' ≡ take s.end b =
+      ap (λ (l : Live). l.run.said) (r.live ∙ cond_false _ _ _ (ne_eqb c 10 h)) in
+      let new : length (take s'.end b') ≡ s'.end = let f = r.fits in simp length-take (omega arith) in
+      let old : length (take s.end b) ≡ s.end = simp length-take (omega arith) in sym new ∙ (ap length said ∙ old)
+
 -- In the middle of a piece: from here on the rest of it is taken as f says.
 pub record Feeding (f : Fed) (size : ℕ) (s : State) (t : Tables) (line b₀ b piece : List ℕ) (used : ℕ) : Type 0 where
   pub going : within size (live_of s t line b) (drop used piece) ≡ f
@@ -124,14 +135,16 @@ module _ {f : Fed} {size : ℕ} {s : State} {t : Tables} {line b₀ b piece : Li
       let none : drop used piece ≡ [] = drop_of_length-le piece h in
       taken (record { live = live_of s t line b; left = [] }) (ap (within size (live_of s t line b)) none) refl (sym none)
 
-  pub feeding_full : used < length piece → length b < s.end + 128 → Taken f s t line piece used b₀ b
+  -- with no room, no byte more is taken
+  full_within : (bs : List ℕ) → length b < s.end + 128
+      → within size (live_of s t line b) bs ≡ record { live = live_of s t line b; left = bs }
   unfolding within
-  feeding_full h full =
-      taken (record { live = live_of s t line b; left = drop used piece })
-      (ap (within size (live_of s t line b)) (next_byte h)
-      ∙ (cond_false _ _ _ (lt-leb (length (take s.end b) + 128) size (omega (arith, written, now.same)))
-      ∙ ap (λ (x : List ℕ). record { live = live_of s t line b; left = x }) (sym (next_byte h))))
-      refl refl
+  full_within [] full = refl
+  full_within (c ∷ cs) full = cond_false _ _ _ (lt-leb (length (take s.end b) + 128) size (omega (arith, written, now.same)))
+
+  pub feeding_full : length b < s.end + 128 → Taken f s t line piece used b₀ b
+  feeding_full full =
+      taken (record { live = live_of s t line b; left = drop used piece }) (full_within (drop used piece) full) refl refl
 
 -- with 128 bytes of room, some of a piece is taken
 pub taken_goes : (s : State) (t : Tables) (line piece b : List ℕ) {s' : State} {t' : Tables} {line' : List ℕ} {used : ℕ} {b' : List ℕ}

@@ -52,11 +52,18 @@ pub fn feed(
         piece.now result.used out.old out.new }
 {
     let mut state = State { end: 0, ..s };
+    // Room is judged where it can change: at the start, and behind a line. Judged at each byte it took up to two thirds more time.
+    if out.len() < 128 {
+        return Fed { state, used: 0 };
+    }
     for (used, &b) in piece.iter().enumerate() {
-        if out.len() - state.end < 128 {
-            return Fed { state, used };
-        }
         state = byte(dist, redist, line, out, state, b);
+        if b == b'\n' && out.len() - state.end < 128 {
+            return Fed {
+                state,
+                used: used + 1,
+            };
+        }
     }
     Fed {
         state,

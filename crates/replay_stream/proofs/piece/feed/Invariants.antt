@@ -1,5 +1,5 @@
--- The first `used` bytes are taken; ₀ is what was lent, and the state at the loop's start.
-use Rattle.std.proofs.Common.{◌≡◌, List, ℕ, length, take}
+-- The first `used` bytes are taken, and there is room for the next; ₀ is what was lent, and the state at the loop's start.
+use Rattle.std.proofs.Common.{◌≡◌, ◌+◌, ◌≤◌, List, ℕ, length, take}
 use Rattle.replay_meaning.specs.Replay.{all_present}
 use Rattle.replay_meaning.specs.Stream.{within}
 use Rattle.replay_state.specs.declared.State.{State}
@@ -13,6 +13,7 @@ pub record Going (dist₀ redist₀ line₀ out₀ piece : List ℕ) (state₀ :
   pub feeding :
       Feeding (within (length out₀) (resumed state₀ (all_present dist₀ redist₀) line₀) piece) (length out₀) state
       (all_present dist redist) line out₀ out piece used
+  pub room : state.end + 128 ≤ length out
   pub held : held_in line state.len ≡ bytes_held (held_in line₀ state₀.len) (take used piece)
 
 abbrev pub invariant-loop-used : goal.invariant-loop-used
