@@ -104,37 +104,52 @@ fn shape_off(off: Option<Off>, shape: Shape) -> Shape {
     )
 }
 
+// One step on tables of any lengths. What `off` names is off its limit for this step alone; of a table that is too short for what is to be
+// lent of it, all is lent.
+pub fn ask(
+    dist: &mut [u8],
+    redist: &mut [u8],
+    dist_presence: &[u32],
+    redist_presence: &[u32],
+    shape: Shape,
+    off: Option<Off>,
+    step: Step,
+) -> Answer {
+    let dist_bytes = lent_of(off, Part::Dist, 2012).min(dist.len());
+    let redist_bytes = lent_of(off, Part::Redist, 96).min(redist.len());
+    let dist_words = lent_of(off, Part::DistPresence, 63).min(dist_presence.len());
+    let redist_words = lent_of(off, Part::RedistPresence, 3).min(redist_presence.len());
+    let mut controller = Controller {
+        dist: &mut dist[..dist_bytes],
+        redist: &mut redist[..redist_bytes],
+        dist_presence: &dist_presence[..dist_words],
+        redist_presence: &redist_presence[..redist_words],
+        shape: shape_off(off, shape),
+    };
+    match step {
+        Step::Access(access) => controller.access(access),
+        Step::Event(intid, event) => controller.event(intid, event),
+        Step::Reset => controller.reset(),
+    }
+}
+
 impl Tables {
-    // One step. What `off` names is off its limit for this step alone.
+    // One step on these tables.
     pub fn ask(&mut self, shape: Shape, off: Option<Off>, step: Step) -> Answer {
-        let dist_bytes = lent_of(off, Part::Dist, self.dist.len() - 1);
-        let redist_bytes = lent_of(off, Part::Redist, self.redist.len() - 1);
-        let dist_words = lent_of(off, Part::DistPresence, self.dist_presence.len() - 1);
-        let redist_words = lent_of(off, Part::RedistPresence, self.redist_presence.len() - 1);
-        let shape = shape_off(off, shape);
         let Tables {
             dist,
             redist,
             dist_presence,
             redist_presence,
         } = self;
-        // First as slices: the check does not follow a part of an array that a struct lends.
-        let (dist, redist): (&mut [u8], &mut [u8]) = (dist, redist);
-        let dist = &mut dist[..dist_bytes];
-        let redist = &mut redist[..redist_bytes];
-        let dist_presence = &dist_presence[..dist_words];
-        let redist_presence = &redist_presence[..redist_words];
-        let mut controller = Controller {
+        ask(
             dist,
             redist,
             dist_presence,
             redist_presence,
             shape,
-        };
-        match step {
-            Step::Access(access) => controller.access(access),
-            Step::Event(intid, event) => controller.event(intid, event),
-            Step::Reset => controller.reset(),
-        }
+            off,
+            step,
+        )
     }
 }
