@@ -2,6 +2,7 @@
 --   ill               refusal 1
 --   access_refused    refusals 2 to 6
 --   access_served     an access at a place
+--   event_happened    an event on an interrupt of a frame
 --   event_banked      an event on an interrupt of a bank
 --   all_cleared       reset
 use Rattle.std.specs.Prelude.{Ok, Err}
@@ -210,7 +211,7 @@ module _ (s : Shape) (t : Tables) (well : well_formed s t ≡ true) where
       by_deed (happens e m) (happen e m) x _ _ refl (answered e m Redist here x ys h) (apart e m Redist here Dist (λ k. refl))
       (meant e m Redist here x ys h)
 
-  event_happened : (e : Event) (m : ℕ) (f : Frame) → frame_of m ≡ f → (x : Answer) (ys : List ℕ)
+  pub event_happened : (e : Event) (m : ℕ) (f : Frame) → frame_of m ≡ f → (x : Answer) (ys : List ℕ)
       → ((i : Interrupt) → sgi i ≡ ltb m 16 → Happened s e i (span_of s (presence_of f t) f m 1) (records_of f t) x ys)
       → record {
         answered = x;

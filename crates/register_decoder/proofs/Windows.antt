@@ -1,6 +1,7 @@
 -- What is known of the place of an access, and of the window that it stands for.
 --   placed_number   its word's number is below 64
 --   placed_aimed    its window is of the access's frame, and one that a register word can have; all else is the Distributor's
+--   word_digits, extended_digits, origin_base   the code's way to a window is the meaning's
 use Rattle.std.specs.Prelude.{Ok, Err}
 use mathlib.Core.Path.{◌≡◌, refl, sym, subst}
 use mathlib.Core.Bool.{Bool, true, false, cond, not, ◌||◌}
@@ -32,20 +33,20 @@ use Rattle.register_list.proofs.Columns.{column}
 use Rattle.register_decoder.specs.Digits.{number_of, origin, count_of, digits_from}
 
 -- words are counted from small multiples of 32
-abbrev Base : ℕ → Type 0
+abbrev pub Base : ℕ → Type 0
 Base m = (m ≤ 4096) × (m % 32 ≡ 0)
 
-origin_base : (r : Frame) → Base (origin r)
+pub origin_base : (r : Frame) → Base (origin r)
 origin_base Dist = (omega arith, refl)
 origin_base Redist = (omega arith, refl)
 
 -- the code's way to a window is the meaning's
-word_digits : (r : Frame) (f : Family) (n : ℕ) → digits_from r f 0 n ≡ target_of (place.Word r f n)
+pub word_digits : (r : Frame) (f : Family) (n : ℕ) → digits_from r f 0 n ≡ target_of (place.Word r f n)
 unfolding target_of
 word_digits Dist f n = rw zero-add
 word_digits Redist f n = rw zero-add
 
-extended_digits : (r : Frame) (f : Family) (n : ℕ) → digits_from r f (origin r) n ≡ target_of (place.Extended r f n)
+pub extended_digits : (r : Frame) (f : Family) (n : ℕ) → digits_from r f (origin r) n ≡ target_of (place.Extended r f n)
 unfolding target_of
 extended_digits Dist f n = rw (le-ltb (4096 + per_word f * n) 32 (omega arith))
 extended_digits Redist f n = refl
