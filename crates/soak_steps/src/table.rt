@@ -14,10 +14,10 @@ pub enum Column {
 
 // A register word and a bit of it.
 #[derive(Clone, Copy)]
-pub(crate) struct Home {
-    pub(crate) column: Column,
-    pub(crate) word: u32,
-    pub(crate) bit: u32,
+pub struct Home {
+    pub column: Column,
+    pub word: u32,
+    pub bit: u32,
     ghost word_bound: { word < 32 },
     ghost bit_bound: { bit < 32 },
 }
@@ -54,7 +54,7 @@ impl Home {
     }
 
     // The INTID of the bit; for Distributor word 31 it may be one that never exists.
-    pub(crate) fn intid(self) -> u32 {
+    pub fn intid(self) -> u32 {
         let first = match self.column {
             Column::Dist => 0,
             Column::Extended => 4096,
@@ -67,7 +67,7 @@ impl Home {
 
 // How the record bytes are filled: all 0, any that are Non-secure, or any.
 #[derive(Clone, Copy)]
-pub(crate) enum Records {
+pub enum Records {
     Zero,
     NonSecure,
     Any,
@@ -96,7 +96,7 @@ impl Records {
 
 // How the presence words are filled: with all interrupts, about half of them, or three of four.
 #[derive(Clone, Copy)]
-pub(crate) enum Presence {
+pub enum Presence {
     All,
     Half,
     Most,
@@ -126,11 +126,11 @@ impl Presence {
 #[derive(Clone, Copy)]
 pub struct Table {
     pub shape: Shape,
-    pub(crate) homes: [Home; 4],
-    pub(crate) records: Records,
-    pub(crate) presence: Presence,
+    pub homes: [Home; 4],
+    pub records: Records,
+    pub presence: Presence,
     // The stream after all this was drawn.
-    pub(crate) x: u64,
+    pub x: u64,
     ghost lines_bound: { shape.lines ≤ 31 },
     ghost espi_bound: { shape.espi ≤ 32 },
     ghost eppi_bound: { shape.eppi ≤ 2 },
